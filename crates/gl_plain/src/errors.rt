@@ -1,0 +1,66 @@
+//! Error codes, and the flags that record them (OpenGL ES 2.0.25, section 2.5).
+ghost use Rattle.std.specs.Prelude.{◌≡◌};
+ghost use Rattle.gl_plain.specs.Errors.{code_of, noted, no_errors};
+
+/// A code that a call is refused with.
+#[derive(Clone, Copy, Debug, PartialEq, Eq)]
+pub enum GlError {
+    InvalidEnum,
+    InvalidValue,
+    InvalidOperation,
+    OutOfMemory,
+    InvalidFramebufferOperation,
+}
+
+impl GlError {
+    /// The number of the code, as GetError answers it.
+    pub fn code(self) -> u32
+        ensures { result ≡ code_of self }
+    {
+        match self {
+            GlError::InvalidEnum => 0x0500,
+            GlError::InvalidValue => 0x0501,
+            GlError::InvalidOperation => 0x0502,
+            GlError::OutOfMemory => 0x0505,
+            GlError::InvalidFramebufferOperation => 0x0506,
+        }
+    }
+}
+
+/// One flag for each code: whether it is recorded.
+#[derive(Clone, Copy, Debug, PartialEq, Eq)]
+pub struct Errors {
+    pub invalid_enum: bool,
+    pub invalid_value: bool,
+    pub invalid_operation: bool,
+    pub out_of_memory: bool,
+    pub invalid_framebuffer_operation: bool,
+}
+
+impl Errors {
+    /// No code is recorded.
+    pub fn new() -> Errors
+        ensures { result ≡ no_errors }
+    {
+        Errors {
+            invalid_enum: false,
+            invalid_value: false,
+            invalid_operation: false,
+            out_of_memory: false,
+            invalid_framebuffer_operation: false,
+        }
+    }
+
+    /// Records a code.
+    pub fn note(&mut self, error: GlError)
+        ensures { self.new ≡ noted self.old error }
+    {
+        match error {
+            GlError::InvalidEnum => self.invalid_enum = true,
+            GlError::InvalidValue => self.invalid_value = true,
+            GlError::InvalidOperation => self.invalid_operation = true,
+            GlError::OutOfMemory => self.out_of_memory = true,
+            GlError::InvalidFramebufferOperation => self.invalid_framebuffer_operation = true,
+        }
+    }
+}
