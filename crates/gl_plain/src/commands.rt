@@ -34,3 +34,12 @@ pub struct Layout {
     pub words: u32,
     pub any_size: bool,
 }
+
+/// The four words that say where a command's data is: a source, how many bytes, and two words whose meaning is the source's.
+#[derive(Clone, Copy, Debug, PartialEq, Eq)]
+pub struct DataWords {
+    pub source: u32,
+    pub count: u32,
+    pub a: u32,
+    pub b: u32,
+}

@@ -10,7 +10,7 @@ mod script;
 mod seq;
 
 pub use calls::{Call, Names, ObjectCall, Payload, Reply, ReplyList};
-pub use commands::{Fetched, Layout, Malformed, Stop};
+pub use commands::{DataWords, Fetched, Layout, Malformed, Stop};
 pub use driver_calls::{Answer, DriverCall, DriverEntry, EntryList, ObjectDriver, Stored};
 pub use errors::{Errors, GlError};
 pub use objects::{Buffer, Name};

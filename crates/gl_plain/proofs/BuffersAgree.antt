@@ -1,0 +1,44 @@
+-- The buffers of a service and of its driver stay alike.
+use Rattle.std.proofs.Common.{◌≡◌, ◌≢◌, ℕ, true, false, refl, ◌∙◌, ap, None, Some, if◌then◌else◌, ◌==◌}
+use Rattle.std.specs.FinMap as map
+use Rattle.std.specs.FinSet as set
+use Rattle.gl_plain.specs.declared.objects.Name.{Name}
+use Rattle.gl_base.specs.declared.gl_enum.GlEnum.{GlEnum}
+use Rattle.std.specs.Ordering.{nat_cmp}
+use Rattle.gl_plain.specs.Tables.{BufferTables, binding, bound, ARRAY_BUFFER}
+use Rattle.gl_plain.specs.Allowed.{IsFresh}
+use Rattle.gl_plain.specs.Effect.{with_name, with_bind, with_object, with_binding, made_object, empty_buffer}
+use Rattle.gl_plain.specs.Agreement.{BuffersAgree}
+use Rattle.gl_plain.proofs.NamesAgree.{agree-named, agree-made}
+
+module _ (w d : BufferTables) (given : set.FinSet nat_cmp) (a : BuffersAgree w d given) where
+  pub agree_named : (id n : ℕ) → map.get w.names id ≡ None → id ≢ 0 → IsFresh given n → BuffersAgree (with_name w id n) (with_name d n n) (set.insert given n)
+  agree_named id n free positive fresh = record { names = agree-named w.names d.names given a.names id n free positive fresh; objects = a.objects; array = a.array; element = a.element }
+
+  agree_binding : (target : GlEnum) (n : ℕ) → BuffersAgree (with_binding w target n) (with_binding d target n) given
+  agree_binding target n = elim (target.0 == ARRAY_BUFFER) as (λ b. BuffersAgree (if b then record w { array = n } else record w { element = n }) (if b then record d { array = n } else record d { element = n }) given) [
+    | true ↦ record { names = a.names; objects = a.objects; array = refl; element = a.element }
+    | false ↦ record { names = a.names; objects = a.objects; array = a.array; element = refl }
+  ]
+
+module _ (w d : BufferTables) (given : set.FinSet nat_cmp) (a : BuffersAgree w d given) where
+  agree_object : (id : ℕ) (x : Name) → map.get w.names id ≡ Some x → BuffersAgree (with_object w id x) (with_object d x.number x) given
+  agree_object id x there = elim x.is_object as (λ b. BuffersAgree
+      (if b then w else record w { names = made_object w.names id x; objects = map.insert w.objects x.number empty_buffer })
+      (if b then d else record d { names = made_object d.names x.number x; objects = map.insert d.objects x.number empty_buffer }) given) [
+        | true ↦ a
+        | false ↦ record { names = agree-made w.names d.names given a.names id x there; objects = ap (λ m. map.insert m x.number empty_buffer) a.objects; array = a.array; element = a.element }
+      ]
+
+  pub agree_bind : (target : GlEnum) (id : ℕ) (x : Name) → map.get w.names id ≡ Some x → BuffersAgree (with_bind w target id) (with_bind d target x.number) given
+  agree_bind target id x there = rw (there, a.names.live id x there)
+      (agree_binding (with_object w id x) (with_object d x.number x) given (agree_object id x there) target x.number)
+
+  pub agree_unbind : (target : GlEnum) → BuffersAgree (with_bind w target 0) (with_bind d target 0) given
+  agree_unbind target = rw (a.names.no_zero_id, a.names.no_zero) (agree_binding w d given a target 0)
+
+  pub same_binding : (target : GlEnum) → binding w target ≡ binding d target
+  same_binding target = elim (target.0 == ARRAY_BUFFER) as (λ b. (if b then w.array else w.element) ≡ (if b then d.array else d.element)) [ true ↦ a.array | false ↦ a.element ]
+
+  pub same_bound : (target : GlEnum) → bound w target ≡ bound d target
+  same_bound target = ap (λ m. map.get m (binding w target)) a.objects ∙ ap (map.get d.objects) (same_binding target)

@@ -1,0 +1,2 @@
+pub mod NamesAgree
+pub mod BuffersAgree

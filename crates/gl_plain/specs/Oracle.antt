@@ -1,0 +1,61 @@
+-- The answers that a run is given: for each kind of question a list that goes on for ever, in the order in which the questions are asked.
+use Rattle.std.specs.Prelude.{ℕ, ◌+◌, List, [], ◌∷◌}
+use Prim.Native.Nat.{zero, suc}
+use Rattle.gl_plain.specs.declared.driver_calls.Answer.{Answer}
+use Rattle.gl_plain.specs.declared.driver_calls.Answer.TheVariants.{Done, Name, Oom}
+use Rattle.gl_plain.specs.declared.driver_calls.Stored.{Stored}
+use Rattle.gl_plain.specs.declared.driver_calls.Stored.TheVariants as room
+use Rattle.gl_plain.specs.declared.driver_calls.ObjectDriver.{ObjectDriver}
+use Rattle.gl_plain.specs.declared.driver_calls.ObjectDriver.TheVariants.{GenBuffer, BindBuffer, BufferData}
+use Rattle.gl_plain.specs.declared.driver_calls.DriverCall.{DriverCall}
+use Rattle.gl_plain.specs.declared.driver_calls.DriverCall.TheVariants.{Object}
+use Rattle.gl_plain.specs.declared.driver_calls.DriverEntry.{DriverEntry}
+
+abbrev pub first : {X : Type 0} → (ℕ → X) → X
+first answers = answers 0
+
+-- the answers behind the first
+abbrev pub behind : {X : Type 0} → (ℕ → X) → ℕ → X
+behind answers k = answers (suc k)
+
+-- this answer, and then the others
+abbrev pub led_by : {X : Type 0} → X → (ℕ → X) → ℕ → X
+led_by x answers zero = x
+led_by x answers (suc k) = answers k
+
+-- n, n + 1, n + 2 and so on
+abbrev pub counted_from : ℕ → ℕ → ℕ
+counted_from n k = n + k
+
+pub record Oracle : Type 0 where
+  -- the numbers that new buffers get
+  pub buffers : ℕ → ℕ
+  -- whether there is room for what is to be stored
+  pub stored : ℕ → Stored
+
+-- the answers where an input gives none: objects are numbered from 1, and there is room
+abbrev pub default_answers : Oracle
+default_answers = record { buffers = counted_from 1; stored = λ k. room.Done }
+
+abbrev pub told_number : Answer → Oracle → Oracle
+told_number (Name n) o = record o { buffers = led_by n o.buffers }
+told_number Done o = o
+told_number Oom o = o
+
+abbrev pub told_stored : Answer → Oracle → Oracle
+told_stored Done o = record o { stored = led_by room.Done o.stored }
+told_stored Oom o = record o { stored = led_by room.Oom o.stored }
+told_stored (Name n) o = o
+
+abbrev pub told_object : ObjectDriver → Answer → Oracle → Oracle
+told_object GenBuffer answer o = told_number answer o
+told_object (BindBuffer target name) answer o = o
+told_object (BufferData target bytes usage) answer o = told_stored answer o
+
+abbrev pub told_call : DriverCall → Answer → Oracle → Oracle
+told_call (Object call) answer o = told_object call answer o
+
+-- what the entries of a journal answered, and then the answers of o
+abbrev pub told : List DriverEntry → Oracle → Oracle
+told [] o = o
+told (e ∷ es) o = told_call e.call e.answer (told es o)

@@ -1,0 +1,65 @@
+-- The driver calls that a command may make.
+use Rattle.std.specs.Prelude.{◌≡◌, ℕ, ◌==◌, if◌then◌else◌, List, [], ◌∷◌, ◌++◌, Option, None, Some, MatchBool}
+use Rattle.std.specs.FinMap as map
+use Rattle.gl_base.specs.declared.gl_enum.GlEnum.{GlEnum}
+use Rattle.gl_plain.specs.declared.objects.Name.{Name}
+use Rattle.gl_plain.specs.declared.calls.Payload.TheVariants.{Absent}
+use Rattle.gl_plain.specs.declared.errors.GlError.{GlError}
+use Rattle.gl_plain.specs.declared.commands.Fetched.{Fetched}
+use Rattle.gl_plain.specs.declared.driver_calls.DriverCall.{DriverCall}
+use Rattle.gl_plain.specs.declared.driver_calls.DriverCall.TheVariants as driver
+use Rattle.gl_plain.specs.declared.driver_calls.ObjectDriver.TheVariants as calls
+use Rattle.gl_plain.specs.declared.driver_calls.DriverEntry.{DriverEntry}
+use Rattle.gl_plain.specs.Tables.{EsState, WireState, DriverState}
+use Rattle.gl_plain.specs.Oracle.{Oracle, first}
+use Rattle.gl_plain.specs.Step.{bytes_of}
+use Rattle.gl_plain.specs.Command.{Command, Noop, Object, ObjectCommand, GenBuffer, BindBuffer, BufferData, command_of}
+use Rattle.gl_plain.specs.Malformed.{has_bad_arguments}
+use Rattle.gl_plain.specs.Wire.{command_refusal, wire_step}
+use Rattle.gl_plain.specs.Journal.{state_after}
+
+abbrev pub gen_buffer_call : DriverCall
+gen_buffer_call = driver.Object calls.GenBuffer
+
+abbrev pub bind_buffer_call : GlEnum → ℕ → DriverCall
+bind_buffer_call target name = driver.Object (calls.BindBuffer target name)
+
+-- a bind of an unused name makes the call for a new name first
+abbrev pub bind_buffer_calls : GlEnum → ℕ → Oracle → Option Name → List DriverCall
+bind_buffer_calls target id o (Some x) = bind_buffer_call target x.number ∷ []
+bind_buffer_calls target id o None =
+    if id == 0 then bind_buffer_call target 0 ∷ [] else gen_buffer_call ∷ bind_buffer_call target (first o.buffers) ∷ []
+
+-- the driver call of a command's name, with driver names
+abbrev pub calls_of : EsState → ObjectCommand → Oracle → List DriverCall
+calls_of s (GenBuffer id) o = gen_buffer_call ∷ []
+calls_of s (BindBuffer target id) o = bind_buffer_calls target id o (map.get s.buffers.names id)
+calls_of s (BufferData target size usage words) o = driver.Object (calls.BufferData target (bytes_of Absent size) usage) ∷ []
+
+-- a refused command makes none
+abbrev pub calls_by : Option GlError → EsState → ObjectCommand → Oracle → List DriverCall
+calls_by (Some e) s c o = []
+calls_by None s c o = calls_of s c o
+
+abbrev pub object_calls : EsState → ObjectCommand → Oracle → List DriverCall
+object_calls s c o = calls_by (command_refusal s c) s c o
+
+-- all driver calls of a command
+abbrev pub command_calls : WireState → Command → Oracle → List DriverCall
+command_calls w Noop o = []
+command_calls w (Object c) o = object_calls w.es c o
+
+abbrev pub calls_in : List DriverEntry → List DriverCall
+calls_in [] = []
+calls_in (e ∷ es) = e.call ∷ calls_in es
+
+-- the entries are what a command enters in the journal of a driver in state d
+abbrev pub IsPart : WireState → DriverState → Command → Oracle → List DriverEntry → Type 0
+IsPart w d c o entries = calls_in entries ≡ command_calls w c o
+
+-- the entries are one part for each command, in order, up to the first whose arguments are malformed
+abbrev pub AreParts : WireState → DriverState → List Fetched → Oracle → List DriverEntry → Type 0
+AreParts w d [] o entries = entries ≡ []
+AreParts w d (f ∷ fs) o entries = MatchBool (has_bad_arguments w (command_of f)) (entries ≡ [])
+    ((part rest : List DriverEntry) × (entries ≡ part ++ rest) × IsPart w d (command_of f) o part
+    × AreParts (wire_step w (command_of f) o).state (state_after d part) fs (wire_step w (command_of f) o).oracle rest)
