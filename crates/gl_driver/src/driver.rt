@@ -1,0 +1,48 @@
+//! The trait of drivers.
+ghost use Rattle.std.specs.Prelude.{◌≡◌, IfOk};
+ghost use Rattle.gl_plain.specs.Allowed.{IsAllowed};
+ghost use Rattle.gl_plain.specs.declared.driver_calls.DriverCall.TheVariants.{Object};
+ghost use Rattle.gl_plain.specs.declared.driver_calls.ObjectDriver.TheVariants.{GenBuffer, BindBuffer, BufferData};
+ghost use Rattle.gl_plain.specs.declared.driver_calls.Answer.TheVariants.{Name};
+ghost use Rattle.gl_driver.specs.History.{History, Served, Caused, Rose, entered, done, stored_answer};
+
+use crate::stop::DriverStop;
+use gl_base::GlEnum;
+use gl_plain::Stored;
+
+/// A driver of OpenGL ES. Each call says in which state it may be made, and what it enters in the journal: the call with its answer,
+/// or nothing where it stops.
+pub trait Driver {
+    /// Its state, its journal, its first stop and its two counts.
+    ghost history: { Self → History };
+
+    /// The second value may come of the first by calls.
+    ghost grown: { Self → Self → Type 0 };
+
+    /// A new buffer name, which was never given before.
+    fn gen_buffer(&mut self) -> Result<u64, DriverStop>
+        ensures served { Served history grown self.old self.new (entered result (Object GenBuffer) Name) }
+        ensures cause { Caused (history self.old) (history self.new) result };
+
+    /// Binds a buffer by its name, or nothing by 0.
+    fn bind_buffer(&mut self, target: GlEnum, name: u64) -> Result<(), DriverStop>
+        requires { IsAllowed (history self.old).state (Object (BindBuffer target name)) }
+        ensures served { Served history grown self.old self.new (entered result (Object (BindBuffer target name)) done) }
+        ensures cause { Caused (history self.old) (history self.new) result };
+
+    /// Gives the bound buffer these bytes. `Oom` where it has no room, which leaves the state as it was.
+    fn buffer_data(
+        &mut self,
+        target: GlEnum,
+        bytes: &[u8],
+        usage: GlEnum,
+    ) -> Result<Stored, DriverStop>
+        requires { IsAllowed (history self.old).state (Object (BufferData target bytes.now usage)) }
+        ensures served { Served history grown self.old self.new (entered result (Object (BufferData target bytes.now usage)) stored_answer) }
+        ensures cause { Caused (history self.old) (history self.new) result }
+        ensures oom { IfOk result (λ s. s ≡ Stored.Oom → Rose (history self.old).ooms (history self.new).ooms) };
+
+    ghost grown_itself: { (a : Self) → grown a a };
+
+    ghost grown_further: { (a b c : Self) → grown a b → grown b c → grown a c };
+}
