@@ -1,18 +1,10 @@
 -- The two laws of `Served`.
-use Rattle.std.proofs.Common.{ℕ, Some, inl, inr, ◌⊎◌, arith, ◌≤◌, ◌≡◌, List, [], ◌∷◌, ◌++◌, refl, sym, ◌∙◌, ap, append_assoc, append-nil}
-use Rattle.gl_plain.specs.Tables.{DriverState}
-use Rattle.gl_plain.specs.Journal.{IsLegal, state_after, entry_after}
+use Rattle.std.proofs.Common.{ℕ, Some, inl, inr, ◌⊎◌, arith, ◌≤◌, ◌≡◌, List, [], ◌++◌, refl, sym, ◌∙◌, ap, append_assoc, append-nil}
+use Rattle.gl_plain.specs.Journal.{state_after}
 use Rattle.gl_plain.specs.declared.driver_calls.DriverEntry.{DriverEntry}
+use Rattle.gl_plain.proofs.Journals.{state_after-append, IsLegal-append}
 use Rattle.gl_driver.specs.History.{History, Served, Rose}
 use Rattle.gl_driver.specs.declared.stop.DriverStop.TheVariants.{Lost}
-
-pub state_after-append : (d : DriverState) (es fs : List DriverEntry) → state_after d (es ++ fs) ≡ state_after (state_after d es) fs
-state_after-append d [] fs = refl
-state_after-append d (e ∷ es) fs = state_after-append (entry_after d e) es fs
-
-pub IsLegal-append : (d : DriverState) (es fs : List DriverEntry) → IsLegal d es → IsLegal (state_after d es) fs → IsLegal d (es ++ fs)
-IsLegal-append d [] fs a b = b
-IsLegal-append d (e ∷ es) fs a b = (a.0, IsLegal-append (entry_after d e) es fs a.1 b)
 
 rose_before : (a b c : ℕ) → a ≤ b → Rose b c → Rose a c
 rose_before a b c le (inl lt) = inl (omega arith)

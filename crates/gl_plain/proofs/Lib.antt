@@ -1,2 +1,3 @@
 pub mod NamesAgree
 pub mod BuffersAgree
+pub mod Journals

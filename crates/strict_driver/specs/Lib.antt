@@ -1,0 +1,3 @@
+pub mod StrictView
+pub mod StrictInside
+pub mod StrictHistory

@@ -1,0 +1,6 @@
+//! A driver in memory that answers in order and keeps the journal of its calls, each of which met its condition.
+#![tactic(auto)]
+
+mod strict;
+
+pub use strict::StrictDriver;
