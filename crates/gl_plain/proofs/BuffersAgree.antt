@@ -5,10 +5,10 @@ use Rattle.std.specs.FinSet as set
 use Rattle.gl_plain.specs.declared.objects.Name.{Name}
 use Rattle.gl_base.specs.declared.gl_enum.GlEnum.{GlEnum}
 use Rattle.std.specs.Ordering.{nat_cmp}
-use Rattle.gl_plain.specs.Tables.{BufferTables, binding, bound, ARRAY_BUFFER}
+use Rattle.gl_plain.specs.Tables.{opening, opening_driver, BufferTables, binding, bound, ARRAY_BUFFER}
 use Rattle.gl_plain.specs.Allowed.{IsFresh}
 use Rattle.gl_plain.specs.Effect.{with_name, with_bind, with_object, with_binding, made_object, empty_buffer}
-use Rattle.gl_plain.specs.Agreement.{BuffersAgree}
+use Rattle.gl_plain.specs.Agreement.{BuffersAgree, Agrees}
 use Rattle.gl_plain.proofs.NamesAgree.{agree-named, agree-made}
 
 module _ (w d : BufferTables) (given : set.FinSet nat_cmp) (a : BuffersAgree w d given) where
@@ -42,3 +42,25 @@ module _ (w d : BufferTables) (given : set.FinSet nat_cmp) (a : BuffersAgree w d
 
   pub same_bound : (target : GlEnum) → bound w target ≡ bound d target
   same_bound target = ap (λ m. map.get m (binding w target)) a.objects ∙ ap (map.get d.objects) (same_binding target)
+
+absent : (key : ℕ) (x : Name) → map.get (map.empty {R = nat_cmp}) key ≡ Some x → ⊥
+absent key x e = let none : map.get (map.empty {X = Name} {R = nat_cmp}) key ≡ None = map.get-empty nat_cmp key in cc
+
+-- at the opening no name is in use
+pub opening_agrees : Agrees opening opening_driver
+opening_agrees = record {
+  buffers = record {
+    names = record {
+      live = λ id x e. absurd (absent id x e);
+      used = λ n x e. absurd (absent n x e);
+      one = λ id other x y e f same. absurd (absent id x e);
+      own = λ n x e. absurd (absent n x e);
+      given_once = λ n x e. absurd (absent n x e);
+      no_zero = map.get-empty nat_cmp 0;
+      no_zero_id = map.get-empty nat_cmp 0;
+    };
+    objects = refl;
+    array = refl;
+    element = refl;
+  };
+}

@@ -13,3 +13,4 @@ pub mod Allowed
 pub mod DriverEffect
 pub mod Journal
 pub mod Agreement
+pub mod Stops

@@ -11,7 +11,7 @@ use Rattle.gl_plain.specs.declared.driver_calls.DriverCall.TheVariants as driver
 use Rattle.gl_plain.specs.declared.driver_calls.ObjectDriver.TheVariants as calls
 use Rattle.gl_plain.specs.declared.driver_calls.DriverEntry.{DriverEntry}
 use Rattle.gl_plain.specs.Tables.{EsState, WireState, DriverState}
-use Rattle.gl_plain.specs.Oracle.{Oracle, first}
+use Rattle.gl_plain.specs.Oracle.{Oracle, first, told}
 use Rattle.gl_plain.specs.Step.{bytes_of}
 use Rattle.gl_plain.specs.Command.{Command, Noop, Object, ObjectCommand, GenBuffer, BindBuffer, BufferData, command_of}
 use Rattle.gl_plain.specs.Malformed.{has_bad_arguments}
@@ -53,9 +53,21 @@ abbrev pub calls_in : List DriverEntry → List DriverCall
 calls_in [] = []
 calls_in (e ∷ es) = e.call ∷ calls_in es
 
+-- the entries are all that a command enters, whose driver calls by its answers are these
+abbrev pub IsPartOf : (Oracle → List DriverCall) → Oracle → List DriverEntry → Type 0
+IsPartOf calls o entries = calls_in entries ≡ calls o
+
+-- the entries are the first of those that a command enters, with some answers behind theirs; perhaps all
+abbrev pub IsFrontOf : (Oracle → List DriverCall) → List DriverEntry → Type 0
+IsFrontOf calls entries = (o : Oracle) × (more : List DriverCall) × (calls_in entries ++ more ≡ calls (told entries o))
+
+-- the same, with at least one call left
+abbrev pub IsProperFrontOf : (Oracle → List DriverCall) → List DriverEntry → Type 0
+IsProperFrontOf calls entries = (o : Oracle) × (next : DriverCall) × (more : List DriverCall) × (calls_in entries ++ next ∷ more ≡ calls (told entries o))
+
 -- the entries are what a command enters in the journal of a driver in state d
 abbrev pub IsPart : WireState → DriverState → Command → Oracle → List DriverEntry → Type 0
-IsPart w d c o entries = calls_in entries ≡ command_calls w c o
+IsPart w d c o entries = IsPartOf (command_calls w c) o entries
 
 -- the entries are one part for each command, in order, up to the first whose arguments are malformed
 abbrev pub AreParts : WireState → DriverState → List Fetched → Oracle → List DriverEntry → Type 0

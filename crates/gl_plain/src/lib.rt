@@ -8,6 +8,7 @@ mod errors;
 mod objects;
 mod script;
 mod seq;
+mod stop;
 
 pub use calls::{Call, Names, ObjectCall, Payload, Reply, ReplyList};
 pub use commands::{DataWords, Fetched, Layout, Malformed, Stop};
@@ -16,3 +17,4 @@ pub use errors::{Errors, GlError};
 pub use objects::{Buffer, Name};
 pub use script::{Patch, PatchList, Script};
 pub use seq::{Bytes, Seq, Words};
+pub use stop::ExecStop;

@@ -63,9 +63,9 @@ strict_more js now e names after is s legal keeps = rw is (record {
   answers = told-append js (e ∷ []) (answers_after after) ∙ ap (told js) (told_more e.call e.answer names after keeps) ∙ s.answers;
 })
 
-pub served_more : (was now : StrictView) (e : DriverEntry) → now.journal ≡ was.journal ++ e ∷ [] → was.stop ≡ now.stop → IsLegalEntry (state_after opening_driver was.journal) e → Served history_of Continues was now (e ∷ [])
-served_more was now e more same legal = record {
-  grows = (e ∷ [], more);
+pub served_more : (was now : StrictView) (e : DriverEntry) → now.journal ≡ was.journal ++ e ∷ [] → was.stop ≡ now.stop → KeepsCount was.buffer_names e now.buffer_names → IsLegalEntry (state_after opening_driver was.journal) e → Served history_of Continues was now (e ∷ [])
+served_more was now e more same keeps legal = record {
+  grows = record { more = e ∷ []; journal = more; answers = told_more e.call e.answer was.buffer_names now.buffer_names keeps };
   journal = more;
   legal = (legal, tt);
   state = ap (state_after opening_driver) more ∙ state_after-append opening_driver was.journal (e ∷ []);

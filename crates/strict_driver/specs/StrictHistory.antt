@@ -1,6 +1,6 @@
 -- A strict driver as a driver.
 use Rattle.std.specs.Prelude.{◌≡◌, ℕ, ◌+◌, List, [], ◌++◌, None}
-use Rattle.std.proofs.Common.{append_assoc, append-nil, sym, ◌∙◌, ap}
+use Rattle.std.proofs.Common.{append_assoc, append-nil, refl, sym, ◌∙◌, ap}
 use Rattle.gl_plain.specs.declared.driver_calls.DriverEntry.{DriverEntry}
 use Rattle.gl_plain.specs.declared.driver_calls.DriverCall.{DriverCall}
 use Rattle.gl_plain.specs.declared.driver_calls.DriverCall.TheVariants.{Object}
@@ -10,7 +10,8 @@ use Rattle.gl_plain.specs.declared.driver_calls.Answer.{Answer}
 use Rattle.gl_plain.specs.declared.driver_calls.Answer.TheVariants.{Done, Name, Oom}
 use Rattle.gl_plain.specs.Tables.{opening_driver}
 use Rattle.gl_plain.specs.Journal.{state_after}
-use Rattle.gl_plain.specs.Oracle.{Oracle}
+use Rattle.gl_plain.specs.Oracle.{Oracle, told}
+use Rattle.gl_plain.proofs.Journals.{told-append}
 use Rattle.gl_driver.specs.History.{History}
 use Rattle.strict_driver.specs.StrictView.{StrictView}
 use Rattle.strict_driver.specs.StrictInside.{answers_after}
@@ -27,15 +28,21 @@ history_of s = record { state = state_after opening_driver s.journal; journal = 
 abbrev pub answers_left : StrictView → Oracle
 answers_left s = answers_after s.buffer_names
 
--- the journal goes on
-abbrev pub Continues : StrictView → StrictView → Type 0
-Continues a b = (more : List DriverEntry) × (b.journal ≡ a.journal ++ more)
+-- the journal goes on, and its answers are those that the earlier value would give
+pub record Continues (a b : StrictView) : Type 0 where
+  pub more : List DriverEntry
+  pub journal : b.journal ≡ a.journal ++ more
+  pub answers : told more (answers_left b) ≡ answers_left a
 
 pub continues_itself : (a : StrictView) → Continues a a
-continues_itself a = ([], sym (append-nil a.journal))
+continues_itself a = record { more = []; journal = sym (append-nil a.journal); answers = refl }
 
 pub continues_further : (a b c : StrictView) → Continues a b → Continues b c → Continues a c
-continues_further a b c p q = (p.0 ++ q.0, q.1 ∙ ap (λ (j : List DriverEntry). j ++ q.0) p.1 ∙ append_assoc a.journal p.0 q.0)
+continues_further a b c p q = record {
+  more = p.more ++ q.more;
+  journal = q.journal ∙ ap (λ (j : List DriverEntry). j ++ q.more) p.journal ∙ append_assoc a.journal p.more q.more;
+  answers = told-append p.more q.more (answers_left c) ∙ ap (told p.more) q.answers ∙ p.answers;
+}
 
 abbrev pub KeepsObjectCount : ℕ → ObjectDriver → Answer → ℕ → Type 0
 KeepsObjectCount names GenBuffer (Name n) after = (n ≡ names + 1) × (after ≡ names + 1)

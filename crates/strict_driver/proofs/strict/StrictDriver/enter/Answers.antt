@@ -16,4 +16,4 @@ returns-in-Ok-clause-served c =
     let journal = ap (λ (v : StrictView). v.journal) c.self.view_is in
     let stop = ap (λ (v : StrictView). v.stop) c.self.view_is in
     served_more c.args.self.now _ c.args.entry (c.in-Ok.ensures.ok ∙ ap (λ (j : List DriverEntry). j ++ c.args.entry ∷ []) journal)
-    (rw stop refl) c.requires.legal
+    (rw stop refl) c.requires.count c.requires.legal
