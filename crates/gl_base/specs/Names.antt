@@ -1,4 +1,4 @@
--- Which words may name an object, and how many names may be in use.
+-- Which words may name an object, and how many names a table may have.
 use Rattle.std.specs.Prelude.{ℕ, ◌+◌, Bool, ◌&&◌, nat_le, nat_lt}
 use Rattle.std.specs.Ordering.{nat_cmp}
 use Rattle.std.specs.FinMap as map
@@ -11,10 +11,10 @@ is_ordinary id = nat_le 1 id && nat_le id 0xFFFFFEFF
 abbrev pub is_reserved : ℕ → Bool
 is_reserved id = nat_le 0xFFFFFF00 id && nat_le id 0xFFFFFF10
 
--- how many ordinary names are in use
+-- how many ordinary names a table has
 abbrev pub ordinary_count : {T : Type 0} → map.FinMap nat_cmp T → ℕ
 ordinary_count names = map.len (map.retain_keys names is_ordinary)
 
--- so many ordinary names more are too many
+-- so many ordinary names more are too many for a table
 abbrev pub is_over_limit : {T : Type 0} → map.FinMap nat_cmp T → ℕ → Bool
 is_over_limit names more = nat_lt 65536 (ordinary_count names + more)

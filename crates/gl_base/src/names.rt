@@ -15,3 +15,25 @@ pub fn is_reserved(id: u32) -> bool
 {
     0xFFFF_FF00 <= id && id <= 0xFFFF_FF10
 }
+
+#[cfg(test)]
+mod tests {
+    use super::*;
+
+    #[test]
+    fn ordinary_and_reserved_names_have_limits(rt: HostRuntime) {
+        let rows = [
+            (0, false, false),
+            (1, true, false),
+            (0xFFFF_FEFF, true, false),
+            (0xFFFF_FF00, false, true),
+            (0xFFFF_FF10, false, true),
+            (0xFFFF_FF11, false, false),
+            (u32::MAX, false, false),
+        ];
+        for (id, ordinary, reserved) in rows {
+            assert_eq!(rt; is_ordinary(id), ordinary, "at {id}");
+            assert_eq!(rt; is_reserved(id), reserved, "at {id}");
+        }
+    }
+}

@@ -1,7 +1,6 @@
-use Rattle.std.proofs.Common.{sym, ◌∙◌, ap}
-use Rattle.std.specs.FinMap as map
-use Rattle.gl_base.proofs.Maps.{get_lookup}
+-- That what std's map finds is what the finite map has.
+use Rattle.gl_base.proofs.Maps.{lookup_is_get}
 use Rattle.gl_base.proofs.number_map.NumberMap.get.Goals as goal
 
 pub returns : goal.returns
-returns g c = c.get.ensures.value ∙ sym (get_lookup c.self.inside.entries.entries c.args.key) ∙ ap (λ m. map.get m c.args.key) c.self.view_is
+returns g c = lookup_is_get _ _ _ _ c.self.view_is c.get.ensures.value

@@ -1,0 +1,6 @@
+//! Tables from the names that clients give to objects.
+#![tactic(auto)]
+
+mod table;
+
+pub use table::{NameRefusal, NameTable};
