@@ -1,0 +1,9 @@
+-- A number that is printed with zeros before it.
+use Rattle.std.proofs.Common.{◌≡◌, ℕ, ◌-◌, ◌^◌, List, [], ◌++◌, length, replicate, false, append-nil}
+use Rattle.std.proofs.Math.Nat.{sub-zero}
+use Rattle.std.specs.Fmt.{padded_integral, char_count, format_spec}
+
+-- under `{:04}` zeros stand before the digits where they are fewer than four
+pub padded_to_four : (numeral : List ℕ) → padded_integral (format_spec 32 0 4 4 (2 ^ 64 - 1)) false [] numeral ≡ replicate (4 - length numeral) 48 ++ numeral
+unfolding padded_integral char_count
+padded_to_four numeral = simp (append-nil, sub-zero)

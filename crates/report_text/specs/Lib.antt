@@ -1,0 +1,7 @@
+pub mod Values
+pub mod Calls
+pub mod Lines
+pub mod Journal
+pub mod Replies
+pub mod Ends
+pub mod Report

@@ -1,0 +1,21 @@
+-- Enums and bytes as they are printed.
+use Rattle.std.specs.Prelude.{ℕ, ◌-◌, List, ◌++◌, length, take, replicate, true, ◌==◌, nat_le, if◌then◌else◌, codes}
+use Rattle.std.specs.Fmt.{decimal, digits}
+use Rattle.hex.specs.Hex.{encode_lower}
+
+-- an enum is `0x` and its upper-case digits, with zeros before them where they are fewer than four
+unfoldable pub enum_text : ℕ → List ℕ
+enum_text value =
+    let numeral = digits 16 true value in
+    codes "0x" ++ (replicate (4 - length numeral) 48 ++ numeral)
+
+-- of bytes the first 32 are shown in lower case, with `+` where there are more, and `-` where there are none
+unfoldable pub shown_bytes : List ℕ → List ℕ
+shown_bytes bytes =
+    if length bytes == 0 then codes "-"
+    else if nat_le (length bytes) 32 then encode_lower bytes
+    else encode_lower (take 32 bytes) ++ codes "+"
+
+-- bytes are their number, a colon and what is shown of them
+unfoldable pub bytes_text : List ℕ → List ℕ
+bytes_text bytes = decimal (length bytes) ++ (codes ":" ++ shown_bytes bytes)
