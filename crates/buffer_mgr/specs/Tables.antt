@@ -1,0 +1,6 @@
+-- The part of the state tables that the buffers are.
+use Rattle.gl_plain.specs.Tables.{BufferTables}
+use Rattle.buffer_mgr.specs.declared.buffers.Buffers.{Buffers}
+
+abbrev pub tables : Buffers → BufferTables
+tables b = record { names = b.names; objects = b.objects; array = b.array; element = b.element }

@@ -1,0 +1,149 @@
+//! The buffers of the service (OpenGL ES 2.0.25, section 2.9).
+ghost use Rattle.std.specs.Prelude.{◌≡◌, OnOk, OnErr, Some, IsSome};
+ghost use Rattle.std.specs.FinMap as map;
+ghost use Rattle.std.specs.Option.{option_copied};
+ghost use Rattle.gl_base.specs.Names as limits;
+ghost use Rattle.gl_plain.specs.Tables as plain;
+ghost use Rattle.gl_plain.specs.Effect.{with_name, with_binding, with_bind, stored, new_name};
+ghost use Rattle.svc_names.specs.Answers.{IsAnswer};
+
+use gl_base::{GlEnum, NumberMap};
+use gl_plain::{Buffer, Bytes, Name};
+use std::alloc::{AllocError, Global};
+use svc_names::{NameRefusal, NameTable};
+
+const ARRAY_BUFFER: GlEnum = GlEnum(0x8892);
+
+const ELEMENT_ARRAY_BUFFER: GlEnum = GlEnum(0x8893);
+
+const STATIC_DRAW: GlEnum = GlEnum(0x88E4);
+
+/// The buffers of the service: the client's names, the objects by number, and the numbers that the two targets bind, 0 for none.
+#[derive(Drop)]
+pub struct Buffers {
+    alloc: Global,
+    names: NameTable<Name>,
+    objects: NumberMap<Buffer>,
+    array: u64,
+    element: u64,
+}
+
+/// Whether the enum is ARRAY_BUFFER or ELEMENT_ARRAY_BUFFER.
+pub fn is_buffer_target(target: GlEnum) -> bool
+    ensures { result ≡ plain.is_buffer_target target }
+{
+    target == ARRAY_BUFFER || target == ELEMENT_ARRAY_BUFFER
+}
+
+impl Buffers {
+    ghost use Rattle.buffer_mgr.specs.Tables.{tables};
+
+    /// No names, and nothing bound. It takes no memory.
+    pub fn new(alloc: Global) -> Buffers
+        ensures { tables result ≡ plain.no_buffers }
+    {
+        Buffers {
+            alloc,
+            names: NameTable::new(alloc),
+            objects: NumberMap::new(alloc),
+            array: 0,
+            element: 0,
+        }
+    }
+
+    /// What is kept of a name in use, or none.
+    pub fn name(&self, id: u32) -> Option<Name>
+        ensures { result ≡ map.get (tables self.now).names id }
+    {
+        self.names.find(id).copied()
+    }
+
+    /// Whether so many ordinary names more are too many.
+    pub fn is_over_limit(&self, more: u32) -> bool
+        ensures { result ≡ limits.is_over_limit (tables self.now).names more }
+    {
+        self.names.is_over_limit(more)
+    }
+
+    /// The number that the target binds, 0 for none.
+    fn binding(&self, target: GlEnum) -> u64
+        ensures { result ≡ plain.binding (tables self.now) target }
+    {
+        if target == ARRAY_BUFFER {
+            self.array
+        } else {
+            self.element
+        }
+    }
+
+    /// The buffer that the target binds.
+    pub fn bound(&self, target: GlEnum) -> Option<&Buffer>
+        ensures { option_copied result ≡ plain.bound (tables self.now) target }
+    {
+        self.objects.get(self.binding(target))
+    }
+
+    fn set_binding(&mut self, target: GlEnum, number: u64)
+        ensures { tables self.new ≡ with_binding (tables self.old) target number }
+    {
+        if target == ARRAY_BUFFER {
+            self.array = number;
+        } else {
+            self.element = number;
+        }
+    }
+
+    /// Brings a name into use, with the number of the object that it will have. It answers as `NameTable::add`.
+    pub fn add_name(&mut self, id: u32, number: u64) -> Result<(), NameRefusal<Name>>
+        ensures ok { OnOk result (tables self.new ≡ with_name (tables self.old) id number) }
+        ensures err { OnErr result (tables self.new ≡ tables self.old) }
+        ensures cause { IsAnswer (tables self.old).names id (new_name number) result }
+    {
+        let name = Name {
+            number,
+            is_object: false,
+        };
+        self.names.add(id, name)
+    }
+
+    /// Leaves nothing bound to the target.
+    pub fn unbind(&mut self, target: GlEnum)
+        ensures { tables self.new ≡ with_binding (tables self.old) target 0 }
+    {
+        self.set_binding(target, 0);
+    }
+
+    /// Binds a name in use, whose object is there from now on. Without memory for it all is as before.
+    pub fn bind(&mut self, target: GlEnum, id: u32, name: Name) -> Result<(), AllocError>
+        requires { map.get (tables self.old).names id ≡ Some name }
+        ensures ok { OnOk result (tables self.new ≡ with_bind (tables self.old) target id) }
+        ensures err { OnErr result (tables self.new ≡ tables self.old) }
+    {
+        let number = name.number;
+        if !name.is_object {
+            let empty = Buffer {
+                bytes: Bytes::new(self.alloc),
+                usage: STATIC_DRAW,
+            };
+            if self.objects.insert(number, empty).is_err() {
+                return Err(AllocError);
+            }
+            let made = Name {
+                number,
+                is_object: true,
+            };
+            self.names.replace(id, made);
+        }
+        self.set_binding(target, number);
+        Ok(())
+    }
+
+    /// Puts a buffer in place of the one that the target binds. It takes no memory.
+    pub fn store(&mut self, target: GlEnum, buffer: Buffer)
+        requires { IsSome (plain.bound (tables self.old) target) }
+        ensures { tables self.new ≡ stored (tables self.old) target buffer }
+    {
+        let number = self.binding(target);
+        self.objects.replace(number, buffer);
+    }
+}
