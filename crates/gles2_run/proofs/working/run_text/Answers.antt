@@ -1,0 +1,6 @@
+use Rattle.std.proofs.Common.{arith}
+use Rattle.gles2_run.proofs.Lines.{lines_are_few}
+use Rattle.gles2_run.proofs.working.run_text.Goals as goal
+
+pub read_script-requires : goal.read_script-requires
+read_script-requires c = omega (arith, lines_are_few c.args.text.now, c.requires.short)

@@ -1,0 +1,104 @@
+-- How a run ends, what that says of its words, its input and its desk, and what is written.
+use Rattle.std.specs.Prelude.{◌≡◌, ◌⊎◌, ◌<◌, ◌≤◌, ℕ, List, [], ◌∷◌, length, codes, Option, Some, None, Ok, Err}
+use Rattle.std.specs.Io.KnownBytes.{Consumes, Appends, IsAtEnd}
+use Rattle.io_edge.specs.Causes.{Rose}
+use Rattle.io_edge.specs.Pieces.{ConsumesFront, AppendsFront}
+use Rattle.gl_plain.specs.declared.calls.Reply.{Reply}
+use Rattle.gl_plain.specs.declared.commands.Stop.{Stop}
+use Rattle.gl_plain.specs.declared.driver_calls.DriverEntry.{DriverEntry}
+use Rattle.gl_plain.specs.declared.script.Script.{Script}
+use Rattle.gl_plain.specs.Tables.{opening_wire, opening_driver}
+use Rattle.gl_plain.specs.Oracle.{Oracle, default_answers}
+use Rattle.gl_plain.specs.Ring.{seen}
+use Rattle.gl_plain.specs.Wire.{Run, wire_run}
+use Rattle.gl_plain.specs.Part.{AreParts}
+use Rattle.gl_plain.specs.Journal.{state_after}
+use Rattle.gl_plain.specs.Agreement.{Agrees}
+use Rattle.ring_script.specs.Script.{script_in}
+use Rattle.report_text.specs.declared.end.End.{End}
+use Rattle.report_text.specs.declared.end.End.TheVariants.{Done, Usage, BadLine, ReadFault, Stopped, NoMemory, TooLong}
+use Rattle.report_text.specs.Ends.{status_of, end_text}
+use Rattle.report_text.specs.Report.{output_text}
+use Rattle.gles2_run.specs.declared.desk.Desk.{Desk}
+use Rattle.gles2_run.specs.Desks.{new_desk}
+
+-- the words of the command line are the one word `ring`
+abbrev pub IsRing : List (List ℕ) → Type 0
+IsRing words = words ≡ codes "ring" ∷ []
+
+-- the most bytes that an input may have
+abbrev pub INPUT_LIMIT : ℕ
+INPUT_LIMIT = 67108864
+
+-- the source gave this input, and then a read of nothing
+pub record IsInput (before now : Option (List ℕ)) (ended : Type 0) (input : List ℕ) : Type 0 where
+  pub whole : Consumes before now input
+  pub at_end : IsAtEnd now
+  pub seen : ended
+  pub short : length input ≤ INPUT_LIMIT
+
+-- the source gave more than an input may have
+abbrev pub IsTooLong : Option (List ℕ) → Option (List ℕ) → Type 0
+IsTooLong before now = (input : List ℕ) × Consumes before now input × (INPUT_LIMIT < length input)
+
+-- the answers that a script gives to what is asked of the driver
+abbrev pub answers_of : Script → Oracle
+answers_of script = default_answers
+
+-- the run of a script's commands, as read, from the opening state
+abbrev pub ring_run : Script → Run
+ring_run script = wire_run opening_wire (seen script).commands (seen script).stop (answers_of script)
+
+-- The desk holds the run of a script: the replies, one part of the journal for each command, and a driver whose tables are those that
+-- the calls of OpenGL ES left.
+pub record HoldsRun (script : Script) (desk : Desk) : Type 0 where
+  pub replies : desk.answers ≡ (ring_run script).replies
+  pub parts : AreParts opening_wire opening_driver (seen script).commands (answers_of script) desk.driver.journal
+  pub agrees : Agrees (ring_run script).state.es (state_after opening_driver desk.driver.journal)
+
+-- the input is a script, which was run to its end, or to the malformed command that the run stops at
+pub record RanTo (before now : Option (List ℕ)) (ended : Type 0) (stop : Option Stop) (desk : Desk) : Type 0 where
+  pub input : List ℕ
+  pub script : Script
+  pub read : IsInput before now ended input
+  pub text : script_in input ≡ Ok script
+  pub stopped : (ring_run script).stop ≡ stop
+  pub run : HoldsRun script desk
+
+-- the input has a line outside the grammar, of which the first is named
+pub record HasBadLine (before now : Option (List ℕ)) (ended : Type 0) (number : ℕ) : Type 0 where
+  pub input : List ℕ
+  pub read : IsInput before now ended input
+  pub text : script_in input ≡ Err number
+
+-- what an end says of an input that was read whole
+abbrev pub TextMeans : End → List ℕ → Desk → Type 0
+TextMeans (BadLine number) input desk = (script_in input ≡ Err number) × (desk ≡ new_desk)
+TextMeans Done input desk = (script : Script) × (script_in input ≡ Ok script) × ((ring_run script).stop ≡ None) × HoldsRun script desk
+TextMeans (Stopped stop) input desk = (script : Script) × (script_in input ≡ Ok script) × ((ring_run script).stop ≡ Some stop) × HoldsRun script desk
+TextMeans NoMemory input desk = Unit {0}
+TextMeans Usage input desk = ⊥
+TextMeans ReadFault input desk = ⊥
+TextMeans TooLong input desk = ⊥
+
+-- what an end says of the words, of the source and its faults, and of the desk
+abbrev pub Means : End → List (List ℕ) → Option (List ℕ) → Option (List ℕ) → Type 0 → ℕ → ℕ → Desk → Type 0
+Means Usage words before now ended was is desk = ¬ IsRing words × (now ≡ before) × (is ≡ was) × (desk ≡ new_desk)
+Means ReadFault words before now ended was is desk = IsRing words × Rose was is × ConsumesFront before now × (desk ≡ new_desk)
+Means TooLong words before now ended was is desk = IsRing words × IsTooLong before now × (desk ≡ new_desk)
+Means (BadLine number) words before now ended was is desk = IsRing words × HasBadLine before now ended number × (desk ≡ new_desk)
+Means Done words before now ended was is desk = IsRing words × RanTo before now ended None desk
+Means (Stopped stop) words before now ended was is desk = IsRing words × RanTo before now ended (Some stop) desk
+Means NoMemory words before now ended was is desk = IsRing words × ((desk ≡ new_desk) ⊎ ((input : List ℕ) × IsInput before now ended input))
+
+-- The status is the end's, and the sink gained its whole output; or a write failed, and it gained a front of it; or there was no
+-- memory for the output, and it gained a front of the line that says so.
+abbrev pub Closes : End → Desk → ℕ → Option (List ℕ) → Option (List ℕ) → ℕ → ℕ → Type 0
+Closes end desk status before after was is =
+    ((status ≡ status_of end) × Appends before after (output_text desk.answers desk.driver.journal end))
+    ⊎ ((status ≡ 5) × Rose was is × AppendsFront before after (output_text desk.answers desk.driver.journal end))
+    ⊎ ((status ≡ 7) × AppendsFront before after (end_text NoMemory))
+
+-- the fact holds, unless a write failed or there was no memory
+abbrev pub UnlessCut : Type 0 → ℕ → Type 0
+UnlessCut fact status = fact ⊎ (status ≡ 5) ⊎ (status ≡ 7)

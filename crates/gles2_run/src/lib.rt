@@ -1,0 +1,15 @@
+//! The program as one call: words and a source in, texts to a sink, a status out.
+#![tactic(auto)]
+
+mod closing;
+mod desk;
+mod image;
+mod top;
+mod working;
+
+#[cfg(test)]
+mod tests;
+
+pub use desk::Desk;
+pub use report_text::End;
+pub use top::run;
