@@ -1,5 +1,5 @@
 -- How a run ends, what that says of its words, its input and its desk, and what is written.
-use Rattle.std.specs.Prelude.{◌≡◌, ◌⊎◌, ◌<◌, ◌≤◌, ℕ, List, [], ◌∷◌, length, codes, Option, Some, None, Ok, Err}
+use Rattle.std.specs.Prelude.{◌≡◌, ◌⊎◌, ◌<◌, ◌≤◌, ℕ, Bool, ◌==◌, ◌||◌, List, [], ◌∷◌, length, codes, Option, Some, None, Ok, Err}
 use Rattle.std.specs.Io.KnownBytes.{Consumes, Appends, IsAtEnd}
 use Rattle.io_edge.specs.Causes.{Rose}
 use Rattle.io_edge.specs.Pieces.{ConsumesFront, AppendsFront}
@@ -102,3 +102,17 @@ Closes end desk status before after was is =
 -- the fact holds, unless a write failed or there was no memory
 abbrev pub UnlessCut : Type 0 → ℕ → Type 0
 UnlessCut fact status = fact ⊎ (status ≡ 5) ⊎ (status ≡ 7)
+
+-- the words are `ring`, the source tells that it has this input, and no read failed
+pub record IsToldRing (words : List (List ℕ)) (before : Option (List ℕ)) (was is : ℕ) (input : List ℕ) : Type 0 where
+  pub ring : IsRing words
+  pub told : before ≡ Some input
+  pub no_fault : ¬ Rose was is
+
+-- the statuses of ends at which the script was run, to its end or to a malformed command
+abbrev pub is_run : ℕ → Bool
+is_run status = (status == 0) || (status == 6)
+
+-- the statuses of ends at which nothing was run
+abbrev pub is_unrun : ℕ → Bool
+is_unrun status = (status == 2) || (status == 3) || (status == 4) || (status == 9)
