@@ -1,3 +1,4 @@
 pub mod NamesAgree
 pub mod BuffersAgree
 pub mod Journals
+mod Rows

@@ -18,3 +18,6 @@ pub use objects::{Buffer, Name};
 pub use script::{Patch, PatchList, Script};
 pub use seq::{Bytes, Seq, Words};
 pub use stop::ExecStop;
+
+#[cfg(test)]
+mod tests;

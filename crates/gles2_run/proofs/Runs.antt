@@ -58,9 +58,9 @@ module _ (script : Script) (all : Seen) (same : all ≡ seen script) (answers : 
     replies = ran.answered ∙ sym (ap (λ (r : Run). r.replies) run_is);
     parts =
         let by_default : AreParts opening_wire opening_driver all.commands default_answers ran.entries =
-            subst (λ (o : Oracle). AreParts opening_wire opening_driver all.commands o ran.entries) told_is (ran.parts (answers_left now)) in
+        subst (λ (o : Oracle). AreParts opening_wire opening_driver all.commands o ran.entries) told_is (ran.parts (answers_left now)) in
         let of_script : AreParts opening_wire opening_driver (seen script).commands default_answers ran.entries =
-            subst (λ (s : Seen). AreParts opening_wire opening_driver s.commands default_answers ran.entries) same by_default in
+        subst (λ (s : Seen). AreParts opening_wire opening_driver s.commands default_answers ran.entries) same by_default in
         subst (λ (j : List DriverEntry). AreParts opening_wire opening_driver (seen script).commands default_answers j) (sym ran.served.journal) of_script;
     agrees = subst (λ (r : Run). Agrees r.state.es (state_after opening_driver now.journal)) (sym run_is) ran.agrees;
   }

@@ -4,11 +4,10 @@
 mod closing;
 mod desk;
 mod image;
-mod top;
-mod working;
-
 #[cfg(test)]
 mod tests;
+mod top;
+mod working;
 
 pub use desk::Desk;
 pub use report_text::End;
