@@ -1,0 +1,129 @@
+#!/usr/bin/env bash
+# Measures the proved program on large scripts: commands a second, bytes of input a second, seconds and peak memory, each at a size and at twice that size.
+#
+#   bench/ring.sh [PROGRAM]      PROGRAM is crates/gles2_cli/out/gles2_cli where it is left out, which ./gles2 first brings up to date
+#
+# It needs python3. The peak is what /usr/bin/time reports, or without it what python3's wait4 does, which is never below python3's own.
+# Times are the least of five runs, with the start of the process, reading the script and writing the report to a file: the seconds that
+# passed, from which the rates come, and those of the processor, which a busy machine disturbs less and which show that time is linear.
+
+set -eu
+root=$(dirname "$(dirname "$(readlink -f "${BASH_SOURCE[0]}")")")
+program=${1:-}
+if [[ -z "$program" ]]; then
+    "$root/gles2" ring </dev/null >/dev/null
+    program="$root/crates/gles2_cli/out/gles2_cli"
+fi
+
+exec python3 - "$program" <<'PYTHON'
+import os, shutil, struct, subprocess, sys, tempfile, time
+
+PROGRAM = sys.argv[1]
+RUNS = 5
+ENTRIES = 1048576
+NOOP, GEN_BUFFERS, BIND_BUFFER, BUFFER_DATA = 0, 257, 258, 259
+ARRAY_BUFFER, STATIC_DRAW = 0x8892, 0x88E4
+
+
+def command(number, *words):
+    return struct.pack(f"<{1 + len(words)}I", number << 21 | 1 + len(words), *words)
+
+
+def script(ring):
+    """A ring in one line of bytes, and put behind its last command."""
+    return f"ring {ENTRIES}\nbytes 0 0 {ring.hex()}\nput {len(ring) // 4}\n".encode()
+
+
+# Each maker gives a script, how many commands it has, and how many lines the program prints.
+
+def noops(n):
+    return script(command(NOOP) * n), n, 1
+
+
+def new_names(n):
+    return script(b"".join(command(GEN_BUFFERS, id + 1) for id in range(n))), n, n + 1
+
+
+def buffer_data(n):
+    """16 bytes for each of four buffers in turn: a bind and an upload."""
+    ring = b"".join(command(GEN_BUFFERS, id + 1) for id in range(4))
+    for k in range(n // 2):
+        ring += command(BIND_BUFFER, ARRAY_BUFFER, k % 4 + 1)
+        ring += command(BUFFER_DATA, ARRAY_BUFFER, 16, STATIC_DRAW, 0, 0, 0, 0)
+    return script(ring), n + 4, n + 5
+
+
+def comment(n):
+    return b"#" + b"x" * (n - 1), 0, 1
+
+
+def lines(n):
+    """A Noop in a line of its own, n times."""
+    text = "".join(f"bytes 0 {4 * k} 01000000\n" for k in range(n))
+    return f"ring {ENTRIES}\n{text}put {n}\n".encode(), n, 1
+
+
+def uploads(n):
+    """n bytes of data in all, in pieces of 65,536."""
+    ring = command(GEN_BUFFERS, 1) + command(BIND_BUFFER, ARRAY_BUFFER, 1)
+    ring += command(BUFFER_DATA, ARRAY_BUFFER, 65536, STATIC_DRAW, 0, 0, 0, 0) * (n // 65536)
+    return script(ring), n // 65536 + 2, n // 65536 + 3
+
+
+ROWS = [
+    ("Noops in one line", noops, 500000),
+    ("GenBuffers", new_names, 32000),
+    ("BindBuffer, BufferData of 16 bytes", buffer_data, 90000),
+    ("BufferData of 65,536 bytes", uploads, 1 << 27),
+    ("one comment", comment, 33000000),
+    ("Noops in a line each", lines, 500000),
+]
+
+
+def run_once(source, sink):
+    """Seconds, seconds of the processor and peak KiB of one run."""
+    timed = shutil.which("/usr/bin/time")
+    with tempfile.NamedTemporaryFile("r") as peak:
+        words = [PROGRAM, "ring"]
+        if timed:
+            words = [timed, "-f", "%M", "-o", peak.name] + words
+        source.seek(0)
+        sink.seek(0)
+        sink.truncate()
+        began = time.perf_counter()
+        process = subprocess.Popen(words, stdin=source, stdout=sink)
+        _, status, usage = os.wait4(process.pid, 0)
+        seconds = time.perf_counter() - began
+        process.returncode = os.waitstatus_to_exitcode(status)
+        if process.returncode != 0:
+            sys.exit(f"bench: the program ended with status {process.returncode}")
+        return seconds, usage.ru_utime + usage.ru_stime, int(peak.read()) if timed else usage.ru_maxrss
+
+
+def measured(text, printed):
+    """The least times and the greatest peak of some runs, whose output has so many lines and ends in `end ok`."""
+    with tempfile.TemporaryFile() as source, tempfile.TemporaryFile() as sink:
+        source.write(text)
+        source.flush()
+        runs = [run_once(source, sink) for _ in range(RUNS)]
+        sink.seek(0)
+        output = sink.read().splitlines()
+    if len(output) != printed or output[-1] != b"end ok":
+        sys.exit("bench: the program printed something else")
+    seconds, cpu, peaks = zip(*runs)
+    return min(seconds), min(cpu), max(peaks)
+
+
+print(f"{'script':36}{'commands':>10}{'input bytes':>13}{'seconds':>9}{'cpu':>8}{'commands/s':>12}{'MB/s':>8}{'peak MiB':>10}{'twice':>7}")
+for name, maker, n in ROWS:
+    before = None
+    for size in (n, 2 * n):
+        text, commands, printed = maker(size)
+        seconds, cpu, peak = measured(text, printed)
+        rate = f"{commands / seconds:12,.0f}" if commands else f"{'-':>12}"
+        speed = len(text) / seconds / 1e6
+        twice = f"{cpu / before:7.2f}" if before else ""
+        print(f"{name:36}{commands:10,}{len(text):13,}{seconds:9.3f}{cpu:8.3f}{rate}{speed:8.1f}{peak / 1024:10.1f}{twice}", flush=True)
+        before = cpu
+print("twice: the processor's time at twice the size over that at the size")
+PYTHON
