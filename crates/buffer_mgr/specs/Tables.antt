@@ -2,5 +2,6 @@
 use Rattle.gl_plain.specs.Tables.{BufferTables}
 use Rattle.buffer_mgr.specs.declared.buffers.Buffers.{Buffers}
 
+-- what the fields of a `Buffers` are in the state tables
 abbrev pub tables : Buffers → BufferTables
 tables b = record { names = b.names; objects = b.objects; array = b.array; element = b.element }

@@ -1,5 +1,5 @@
 -- A bind of a name that is not in use goes on after its call for a new name.
-use Rattle.std.proofs.Common.{◌≡◌, ◌≢◌, ◌++◌, ℕ, Bool, true, false, not, ◌==◌, List, [], ◌∷◌, Option, None, Some, is_none, Result, refl, sym, ◌∙◌, ap, subst, inl, inr, if◌then◌else◌}
+use Rattle.std.proofs.Common.{◌≡◌, ◌≢◌, ℕ, Bool, true, false, not, ◌==◌, [], ◌∷◌, Option, None, Some, Result, refl, sym, ◌∙◌, ap, subst, inl, inr, if◌then◌else◌}
 use Rattle.std.proofs.lemmas.Bool.Decides.{eqb_tells}
 use Rattle.std.specs.FinMap as map
 use Rattle.gl_base.specs.declared.gl_enum.GlEnum.{GlEnum}
@@ -14,7 +14,7 @@ use Rattle.gl_plain.specs.declared.errors.Errors.{Errors}
 use Rattle.gl_plain.specs.declared.errors.GlError.{GlError}
 use Rattle.gl_plain.specs.declared.errors.GlError.TheVariants.{InvalidEnum}
 use Rattle.gl_plain.specs.declared.stop.ExecStop.{ExecStop}
-use Rattle.gl_plain.specs.Tables.{BufferTables, EsState, is_buffer_target}
+use Rattle.gl_plain.specs.Tables.{EsState, is_buffer_target}
 use Rattle.gl_plain.specs.Effect.{new_name, with_name, with_bind}
 use Rattle.gl_plain.specs.Oracle.{Oracle, first, behind, told_call}
 use Rattle.gl_plain.specs.Refusal.{bind_buffer_refusal}
@@ -27,7 +27,7 @@ use Rattle.gl_driver.specs.History.{History, Served}
 use Rattle.buffer_mgr.specs.declared.buffers.Buffers.{Buffers}
 use Rattle.buffer_mgr.specs.Tables.{tables}
 use Rattle.decode_objects.specs.Acts.{beside, Acts}
-use Rattle.decode_objects.proofs.Exits.{step_allowed, calls_allowed}
+use Rattle.decode_objects.proofs.Exits.{step_allowed}
 use Rattle.decode_objects.proofs.GoesOn.{goes_on, Leads}
 
 abbrev pub gen_entry : ℕ → DriverEntry
@@ -78,9 +78,9 @@ module _ {D : Type 0} {history : D → History} {grown : D → D → Type 0} (ta
       → Acts history grown (command.BindBuffer target id) b1 e d1 b2 e d2 result → Acts history grown (command.BindBuffer target id) b e d b2 e d2 result
   after_gen further any result named served unknown positive allowed fair =
       goes_on (command.BindBuffer target id) (gen_entry n) b b1 b2 e e d d1 d2 further any result served (λ s.
-          subst (λ (t : EsState). Leads (command.BindBuffer target id) (gen_entry n) (beside b e s) t) (between b b1 e id n named s) record {
-            fair = fair;
-            fair_after = fair;
-            step = step_before (beside b e s) target id n unknown positive allowed;
-            calls = calls_before (beside b e s) target id n unknown positive allowed;
-          })
+      subst (λ (t : EsState). Leads (command.BindBuffer target id) (gen_entry n) (beside b e s) t) (between b b1 e id n named s) record {
+        fair = fair;
+        fair_after = fair;
+        step = step_before (beside b e s) target id n unknown positive allowed;
+        calls = calls_before (beside b e s) target id n unknown positive allowed;
+      })

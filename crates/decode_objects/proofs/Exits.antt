@@ -1,5 +1,5 @@
 -- The ways in which a command on objects ends.
-use Rattle.std.proofs.Common.{◌≡◌, ◌⊎◌, ◌++◌, true, false, List, [], ◌∷◌, Option, None, Some, Result, Ok, Err, refl, sym, ◌∙◌, ap, subst}
+use Rattle.std.proofs.Common.{◌≡◌, false, List, [], ◌∷◌, None, Some, Result, Ok, Err, refl, sym, ◌∙◌, ap}
 use Rattle.gl_plain.specs.declared.driver_calls.DriverEntry.{DriverEntry}
 use Rattle.gl_plain.specs.declared.driver_calls.DriverCall.{DriverCall}
 use Rattle.gl_plain.specs.declared.calls.Call.TheVariants as call
@@ -7,16 +7,15 @@ use Rattle.gl_plain.specs.declared.calls.Reply.{Reply}
 use Rattle.gl_plain.specs.declared.calls.Reply.TheVariants as reply
 use Rattle.gl_plain.specs.declared.errors.Errors.{Errors}
 use Rattle.gl_plain.specs.declared.errors.GlError.{GlError}
-use Rattle.gl_plain.specs.declared.commands.Malformed.TheVariants.{InvalidArguments}
-use Rattle.gl_plain.specs.declared.stop.ExecStop.TheVariants.{Bad, Lost, NoMemory}
+use Rattle.gl_plain.specs.declared.stop.ExecStop.TheVariants.{NoMemory}
 use Rattle.std.proofs.lemmas.Result.{err_from_is_err_and}
 use Rattle.std.specs.Result.{IsErrAnd}
 use Rattle.gl_plain.specs.declared.stop.ExecStop.{ExecStop}
 use Rattle.gl_plain.specs.Stops.{no_memory}
 use Rattle.gl_plain.specs.Errors.{noted}
-use Rattle.gl_plain.specs.Tables.{BufferTables, EsState, DriverState}
-use Rattle.gl_plain.specs.Oracle.{Oracle, default_answers, told}
-use Rattle.gl_plain.specs.Step.{Outcome, outcome_by, object_outcome, with_error, leaves}
+use Rattle.gl_plain.specs.Tables.{EsState}
+use Rattle.gl_plain.specs.Oracle.{Oracle, default_answers}
+use Rattle.gl_plain.specs.Step.{outcome_by, object_outcome, with_error, leaves}
 use Rattle.gl_plain.specs.Command.{ObjectCommand, GenBuffer, BindBuffer, BufferData, spelled, names_given}
 use Rattle.gl_plain.specs.Malformed.{has_bad_object_arguments}
 use Rattle.gl_plain.specs.Wire.{command_refusal, command_reply, with_command_reply, object_step}

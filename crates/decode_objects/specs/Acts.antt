@@ -23,6 +23,7 @@ use Rattle.buffer_mgr.specs.Tables.{tables}
 abbrev pub beside : Buffers → Errors → EsState → EsState
 beside b e s = record s { buffers = tables b; errors = e }
 
+-- the buffers agree with the driver's
 abbrev pub AgreesWith : Buffers → DriverState → Type 0
 AgreesWith b d = BuffersAgree (tables b) d.buffers d.given.buffers
 
@@ -48,6 +49,7 @@ pub record WasLost (c : ObjectCommand) (b : Buffers) (e : Errors) (old new : His
   pub fair : (s : EsState) → has_bad_object_arguments (beside b e s) c ≡ false
   pub front : (s : EsState) → IsProperFrontOf (object_calls (beside b e s) c) entries
 
+-- what a result says
 abbrev pub IsOutcome : ObjectCommand → Buffers → Errors → History → List DriverEntry → Buffers → Errors → History → Result Reply ExecStop → Type 0
 IsOutcome c b e h entries b2 e2 h2 (Ok reply) = Did c b e entries b2 e2 h2.state reply
 IsOutcome c b e h entries b2 e2 h2 (Err (Bad kind)) = WasBad c b e entries b2 e2 kind

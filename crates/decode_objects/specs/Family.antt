@@ -7,6 +7,7 @@ use Rattle.gl_plain.specs.Command.{layout_of}
 abbrev pub IsObjectNumber : ℕ → Type 0
 IsObjectNumber number = (257 ≤ number) × (number ≤ 259)
 
+-- how many words a layout has, if there is one
 abbrev pub words_in : Option Layout → ℕ
 words_in None = 0
 words_in (Some layout) = layout.words

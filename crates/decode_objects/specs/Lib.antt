@@ -1,2 +1,3 @@
+-- The definitions that contracts cite.
 pub mod Acts
 pub mod Family

@@ -37,7 +37,16 @@ pub fn object_command<D: Driver>(
                 b: words[6],
             };
             let size = words[1].cast_signed();
-            buffer_data(alloc, buffers, errors, GlEnum(words[0]), size, GlEnum(words[2]), data, driver)
+            buffer_data(
+                alloc,
+                buffers,
+                errors,
+                GlEnum(words[0]),
+                size,
+                GlEnum(words[2]),
+                data,
+                driver,
+            )
         }
     }
 }

@@ -1,5 +1,5 @@
 -- From a command on objects to the execution of a command.
-use Rattle.std.proofs.Common.{◌≡◌, ◌≢◌, ◌≤◌, ℕ, Bool, true, false, ◌==◌, if◌then◌else◌, Option, None, Some, Result, Ok, Err, refl, sym, ◌∙◌, ap, subst, arith, inl, inr}
+use Rattle.std.proofs.Common.{◌≡◌, ◌≢◌, ℕ, false, ◌==◌, None, Some, Result, Ok, Err, refl, ap, arith, inl, inr}
 use Rattle.std.proofs.lemmas.Bool.Decides.{eqb_tells}
 use Rattle.gl_plain.specs.declared.calls.Reply.{Reply}
 use Rattle.gl_plain.specs.declared.commands.Fetched.{Fetched}
@@ -8,7 +8,7 @@ use Rattle.gl_plain.specs.declared.errors.Errors.{Errors}
 use Rattle.gl_plain.specs.declared.stop.ExecStop.{ExecStop}
 use Rattle.gl_plain.specs.declared.stop.ExecStop.TheVariants.{Bad, Lost, NoMemory}
 use Rattle.gl_plain.specs.Tables.{WireState, opening}
-use Rattle.gl_plain.specs.Command.{Command, Noop, Object, layout_of, command_of, object_command_of}
+use Rattle.gl_plain.specs.Command.{layout_of, object_command_of}
 use Rattle.gl_plain.specs.Wire.{on_wire}
 use Rattle.gl_driver.specs.History.{History}
 use Rattle.buffer_mgr.specs.declared.buffers.Buffers.{Buffers}

@@ -1,3 +1,4 @@
+-- The lemmas that proofs share.
 pub mod Commands
 pub mod Words
 pub mod SoFar

@@ -1,6 +1,6 @@
 -- A run of the service that goes on.
 use Prim.Native.Nat.{suc, zero}
-use Rattle.std.proofs.Common.{◌≡◌, ◌⊎◌, ℕ, ◌+◌, ◌-◌, List, [], ◌∷◌, ◌++◌, refl, sym, ◌∙◌, ap, subst, arith, append_assoc, append-nil, Option, Some, None, Bool, true, false, eqb, inl, inr}
+use Rattle.std.proofs.Common.{◌≡◌, ◌⊎◌, ℕ, List, [], ◌∷◌, ◌++◌, refl, sym, ◌∙◌, ap, subst, arith, append_assoc, append-nil, Option, Some, None, true, false, eqb, inl, inr}
 use Rattle.std.proofs.lemmas.Grind.{common_steps}
 use Rattle.gl_plain.specs.declared.calls.Reply.{Reply}
 use Rattle.gl_plain.specs.declared.commands.Fetched.{Fetched}
@@ -18,7 +18,6 @@ use Rattle.gl_plain.specs.Part.{AreParts}
 use Rattle.gl_plain.specs.Journal.{state_after}
 use Rattle.gl_plain.proofs.Journals.{told-append}
 use Rattle.decoder_core.specs.Decoded.{Did}
-use Rattle.decoder_core.specs.Served.{IsFaulty}
 
 -- the commands from get on, where the first passes its tests
 pub seen_more : (ring : List ℕ) (entries put n m get : ℕ) → n ≡ suc m → (get ≡ put → ⊥) → first_fault entries put get (entry_at ring get) ≡ None
@@ -82,7 +81,7 @@ module _ (w : WireState) (d : DriverState) (all : Seen) (now : WireState) (drive
         ∙ after_more replies r (wire_run mid next.commands next.stop rest);
     parts = λ more rest p.
         let here : AreParts now driver left.commands (told (part ++ more) rest) (part ++ more) =
-            rw (e, told-append part more rest, did.fair) (part, more, refl, did.part (told more rest), rw (did.step (told more rest), ← driven) p) in
+        rw (e, told-append part more rest, did.fair) (part, more, refl, did.part (told more rest), rw (did.step (told more rest), ← driven) p) in
         rw (append_assoc entries part more) (so.parts (part ++ more) rest here);
   }
 

@@ -1,12 +1,12 @@
 -- How a run of the service stops.
 use Prim.Native.Nat.{suc}
-use Rattle.std.proofs.Common.{◌≡◌, ◌⊎◌, ℕ, List, [], ◌∷◌, ◌++◌, refl, sym, ◌∙◌, ap, subst, append-nil, Option, Some, None, Result, Err, true, inl, inr}
+use Rattle.std.proofs.Common.{◌≡◌, ℕ, List, ◌++◌, sym, ◌∙◌, append-nil, Some, Err, inl, inr}
 use Rattle.gl_plain.specs.declared.calls.Reply.{Reply}
 use Rattle.gl_plain.specs.declared.commands.Stop.{Stop}
 use Rattle.gl_plain.specs.declared.driver_calls.DriverEntry.{DriverEntry}
 use Rattle.gl_plain.specs.Tables.{WireState, DriverState}
 use Rattle.gl_plain.specs.Oracle.{Oracle, told}
-use Rattle.gl_plain.specs.Ring.{Seen, seen_from, entry_at, size_in, command_at, next_get}
+use Rattle.gl_plain.specs.Ring.{Seen, seen_from, command_at}
 use Rattle.gl_plain.specs.Wire.{wire_run}
 use Rattle.gl_plain.specs.Part.{AreParts}
 use Rattle.gl_plain.specs.Agreement.{Agrees}

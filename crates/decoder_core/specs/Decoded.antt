@@ -8,7 +8,7 @@ use Rattle.gl_plain.specs.declared.commands.Malformed.{Malformed}
 use Rattle.gl_plain.specs.declared.commands.Malformed.TheVariants.{InvalidArguments}
 use Rattle.gl_plain.specs.declared.stop.ExecStop.{ExecStop}
 use Rattle.gl_plain.specs.declared.stop.ExecStop.TheVariants.{Bad, Lost, NoMemory}
-use Rattle.gl_plain.specs.Tables.{EsState, WireState, DriverState}
+use Rattle.gl_plain.specs.Tables.{WireState, DriverState}
 use Rattle.gl_plain.specs.Oracle.{Oracle, told}
 use Rattle.gl_plain.specs.Command.{layout_of, command_of}
 use Rattle.gl_plain.specs.Malformed.{has_bad_arguments}
@@ -51,6 +51,7 @@ pub record WasLost (f : Fetched) (w : WireState) (old new : History) (entries : 
   pub fair : has_bad_arguments w (command_of f) ≡ false
   pub front : IsProperFrontOf (command_calls w (command_of f)) entries
 
+-- what a result says
 abbrev pub IsOutcome : Fetched → WireState → History → List DriverEntry → WireState → History → Result Reply ExecStop → Type 0
 IsOutcome f w h entries w2 h2 (Ok reply) = Did f w h.state entries w2 h2.state reply
 IsOutcome f w h entries w2 h2 (Err (Bad kind)) = WasBad f w entries w2 kind

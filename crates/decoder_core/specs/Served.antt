@@ -48,6 +48,7 @@ pub record WasCut {D : Type 0} (history : D → History) (grown : D → D → Ty
   pub entries : List DriverEntry
   pub served : Served history grown d d2 entries
 
+-- the run was cut short by a lost driver
 abbrev pub WasLost : {D : Type 0} (history : D → History) (grown : D → D → Type 0) (d d2 : D) → Type 0
 WasLost history grown d d2 = WasCut history grown d d2 × ((history d2).stop ≡ Some driver.Lost)
 

@@ -32,7 +32,11 @@ impl Decoder {
     }
 
     /// Executes a command. It sees the command as it was read, and no memory that the client can change.
-    pub fn execute<D: Driver>(&mut self, command: &Fetched, driver: &mut D) -> Result<Reply, ExecStop>
+    pub fn execute<D: Driver>(
+        &mut self,
+        command: &Fetched,
+        driver: &mut D,
+    ) -> Result<Reply, ExecStop>
         requires readable { IsReadable command.now }
         requires agrees { Agrees (state_of self.old).es (D.history driver.old).state }
         ensures { Executes D.history D.grown command.now (state_of self.old) driver.old (state_of self.new) driver.new result }
@@ -40,6 +44,12 @@ impl Decoder {
         if command.number == 0 {
             return Ok(Reply::None);
         }
-        object_command(self.alloc, &mut self.buffers, &mut self.errors, command, driver)
+        object_command(
+            self.alloc,
+            &mut self.buffers,
+            &mut self.errors,
+            command,
+            driver,
+        )
     }
 }

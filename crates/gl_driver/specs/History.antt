@@ -33,6 +33,7 @@ pub record Served {D : Type 0} (history : D → History) (grown : D → D → Ty
   pub ooms : (history old).ooms ≤ (history new).ooms
   pub lost : (history new).stop ≡ Some Lost → Rose (history old).losses (history new).losses ⊎ ((history old).stop ≡ Some Lost)
 
+-- the stop that a result is, if it is one
 abbrev pub stop_of : {T : Type 0} → Result T DriverStop → Option DriverStop
 stop_of (Ok x) = None
 stop_of (Err e) = Some e
@@ -51,6 +52,7 @@ entered (Err e) call answer = []
 abbrev pub done : Unit {0} → Answer
 done u = answers.Done
 
+-- the answer of a call that asks for room
 abbrev pub stored_answer : Stored → Answer
 stored_answer room.Done = answers.Done
 stored_answer room.Oom = answers.Oom

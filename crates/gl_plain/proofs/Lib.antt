@@ -1,3 +1,4 @@
+-- The lemmas that proofs share.
 pub mod NamesAgree
 pub mod BuffersAgree
 pub mod Journals

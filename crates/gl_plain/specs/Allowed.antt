@@ -16,6 +16,7 @@ use Rattle.gl_plain.specs.Refusal.{DATA_LIMIT}
 abbrev pub IsLive : Names → ℕ → Type 0
 IsLive names name = IsSome (map.get names name)
 
+-- a name to bind is 0 or live; data needs a bound buffer and stays within the limit (section 2.9)
 abbrev pub IsObjectAllowed : DriverState → ObjectDriver → Type 0
 IsObjectAllowed d GenBuffer = Unit {0}
 IsObjectAllowed d (BindBuffer target name) = IsTrue (is_buffer_target target) × ((name ≡ 0) ⊎ IsLive d.buffers.names name)
@@ -31,21 +32,25 @@ pub record IsFresh (given : set.FinSet nat_cmp) (name : ℕ) : Type 0 where
   pub positive : name ≢ 0
   pub unused : set.contains given name ≡ false
 
+-- the answer is a new name
 abbrev pub IsNewName : set.FinSet nat_cmp → Answer → Type 0
 IsNewName given (Name name) = IsFresh given name
 IsNewName given Done = ⊥
 IsNewName given Oom = ⊥
 
+-- the answer says that it was done
 abbrev pub IsDone : Answer → Type 0
 IsDone Done = Unit {0}
 IsDone (Name name) = ⊥
 IsDone Oom = ⊥
 
+-- the answer says whether there was room
 abbrev pub IsStored : Answer → Type 0
 IsStored Done = Unit {0}
 IsStored Oom = Unit {0}
 IsStored (Name name) = ⊥
 
+-- which form the answer of each call on objects has
 abbrev pub IsObjectAnswer : DriverState → ObjectDriver → Answer → Type 0
 IsObjectAnswer d GenBuffer answer = IsNewName d.given.buffers answer
 IsObjectAnswer d (BindBuffer target name) answer = IsDone answer

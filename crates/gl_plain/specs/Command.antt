@@ -20,6 +20,7 @@ pub data Command : Type 0 where
   Noop : Command
   Object : (command : ObjectCommand) → Command
 
+-- a layout of so many words
 abbrev pub fixed : ℕ → Layout
 fixed words = record { words = words; any_size = false }
 
@@ -32,9 +33,11 @@ layout_of number =
     else if number == 259 then Some (fixed 7)
     else None
 
+-- a word as an enum
 abbrev pub enum_at : List ℕ → ℕ → GlEnum
 enum_at words i = record { 0 = slice_index words i }
 
+-- a word as a signed number, in two's complement
 abbrev pub signed_at : List ℕ → ℕ → ℤ
 signed_at words i = cast_signed w32 (slice_index words i)
 
@@ -42,6 +45,7 @@ signed_at words i = cast_signed w32 (slice_index words i)
 abbrev pub data_at : List ℕ → ℕ → ℕ → ℕ → ℕ → DataWords
 data_at words i j k l = record { source = slice_index words i; count = slice_index words j; a = slice_index words k; b = slice_index words l }
 
+-- the command on objects that a number and words spell
 abbrev pub object_command_of : ℕ → List ℕ → ObjectCommand
 object_command_of number words =
     if number == 257 then GenBuffer (slice_index words 0)

@@ -23,6 +23,7 @@ after_buffer_data d target bytes usage Done = record d { buffers = stored d.buff
 after_buffer_data d target bytes usage Oom = d
 after_buffer_data d target bytes usage (Name n) = d
 
+-- what a call on objects leaves
 abbrev pub after_object : DriverState → ObjectDriver → Answer → DriverState
 after_object d GenBuffer answer = after_gen_buffer d answer
 after_object d (BindBuffer target name) answer = record d { buffers = with_bind d.buffers target name }

@@ -35,6 +35,7 @@ abbrev pub with_object : BufferTables → ℕ → Name → BufferTables
 with_object t id x =
     if x.is_object then t else record t { names = made_object t.names id x; objects = map.insert t.objects x.number empty_buffer }
 
+-- the target binds the object of what the table has of a name, if anything
 abbrev pub bound_by : BufferTables → GlEnum → ℕ → Option Name → BufferTables
 bound_by t target id None = with_binding t target 0
 bound_by t target id (Some x) = with_binding (with_object t id x) target x.number

@@ -1,3 +1,4 @@
+-- The definitions that contracts cite.
 pub mod Errors
 pub mod Tables
 pub mod Effect

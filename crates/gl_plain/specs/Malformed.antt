@@ -18,6 +18,7 @@ is_bad_bind id = not ((id == 0) || is_ordinary id || is_reserved id)
 abbrev pub is_bad_data : DataWords → Bool
 is_bad_data w = not ((w.source == 0) && (w.count == 0) && (w.a == 0) && (w.b == 0))
 
+-- an argument rule of a command on objects is broken
 abbrev pub has_bad_object_arguments : EsState → ObjectCommand → Bool
 has_bad_object_arguments s (GenBuffer id) = is_bad_gen s.buffers.names id
 has_bad_object_arguments s (BindBuffer target id) = is_bad_bind id

@@ -11,6 +11,7 @@ use Rattle.gl_plain.specs.declared.driver_calls.DriverCall.{DriverCall}
 use Rattle.gl_plain.specs.declared.driver_calls.DriverCall.TheVariants.{Object}
 use Rattle.gl_plain.specs.declared.driver_calls.DriverEntry.{DriverEntry}
 
+-- the first answer of a list
 abbrev pub first : {X : Type 0} → (ℕ → X) → X
 first answers = answers 0
 
@@ -27,6 +28,7 @@ led_by x answers (suc k) = answers k
 abbrev pub counted_from : ℕ → ℕ → ℕ
 counted_from n k = n + k
 
+-- the lists, one for each kind of question
 pub record Oracle : Type 0 where
   -- the numbers that new buffers get
   pub buffers : ℕ → ℕ
@@ -37,21 +39,25 @@ pub record Oracle : Type 0 where
 abbrev pub default_answers : Oracle
 default_answers = record { buffers = counted_from 1; stored = λ k. room.Done }
 
+-- a new name is the next number
 abbrev pub told_number : Answer → Oracle → Oracle
 told_number (Name n) o = record o { buffers = led_by n o.buffers }
 told_number Done o = o
 told_number Oom o = o
 
+-- whether there was room is the next answer of that kind
 abbrev pub told_stored : Answer → Oracle → Oracle
 told_stored Done o = record o { stored = led_by room.Done o.stored }
 told_stored Oom o = record o { stored = led_by room.Oom o.stored }
 told_stored (Name n) o = o
 
+-- what a call on objects asked
 abbrev pub told_object : ObjectDriver → Answer → Oracle → Oracle
 told_object GenBuffer answer o = told_number answer o
 told_object (BindBuffer target name) answer o = o
 told_object (BufferData target bytes usage) answer o = told_stored answer o
 
+-- what a call asked, before the other answers
 abbrev pub told_call : DriverCall → Answer → Oracle → Oracle
 told_call (Object call) answer o = told_object call answer o
 

@@ -18,9 +18,11 @@ use Rattle.gl_plain.specs.Malformed.{has_bad_arguments}
 use Rattle.gl_plain.specs.Wire.{command_refusal, wire_step}
 use Rattle.gl_plain.specs.Journal.{state_after}
 
+-- the call for a new buffer name
 abbrev pub gen_buffer_call : DriverCall
 gen_buffer_call = driver.Object calls.GenBuffer
 
+-- the call that binds a buffer
 abbrev pub bind_buffer_call : GlEnum → ℕ → DriverCall
 bind_buffer_call target name = driver.Object (calls.BindBuffer target name)
 
@@ -41,6 +43,7 @@ abbrev pub calls_by : Option GlError → EsState → ObjectCommand → Oracle �
 calls_by (Some e) s c o = []
 calls_by None s c o = calls_of s c o
 
+-- all driver calls of a command on objects
 abbrev pub object_calls : EsState → ObjectCommand → Oracle → List DriverCall
 object_calls s c o = calls_by (command_refusal s c) s c o
 
@@ -49,6 +52,7 @@ abbrev pub command_calls : WireState → Command → Oracle → List DriverCall
 command_calls w Noop o = []
 command_calls w (Object c) o = object_calls w.es c o
 
+-- the calls of a journal, without their answers
 abbrev pub calls_in : List DriverEntry → List DriverCall
 calls_in [] = []
 calls_in (e ∷ es) = e.call ∷ calls_in es

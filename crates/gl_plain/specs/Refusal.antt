@@ -16,6 +16,7 @@ use Rattle.gl_plain.specs.Tables.{Names, BufferTables, EsState, is_buffer_target
 abbrev pub DATA_LIMIT : ℕ
 DATA_LIMIT = 67108864
 
+-- the number is below 0
 abbrev pub is_negative : ℤ → Bool
 is_negative (pos n) = false
 is_negative (negsuc n) = true
@@ -49,10 +50,12 @@ buffer_data_refusal t target size usage =
     else if nat_lt DATA_LIMIT (natural size) then Some OutOfMemory
     else if is_none (bound t target) then Some InvalidOperation else None
 
+-- the refusal of a call on objects, row by row
 abbrev pub object_refusal : EsState → ObjectCall → Option GlError
 object_refusal s (GenBuffers count) = gen_refusal s.buffers.names count
 object_refusal s (BindBuffer target buffer) = bind_buffer_refusal s.buffers target buffer
 object_refusal s (BufferData target size «data» usage) = buffer_data_refusal s.buffers target size usage
 
+-- the code that a call is refused with, if any
 abbrev pub refusal : EsState → Call → Option GlError
 refusal s (Object call) = object_refusal s call

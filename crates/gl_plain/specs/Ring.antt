@@ -63,6 +63,7 @@ pub record Seen : Type 0 where
   pub commands : List Fetched
   pub stop : Option Stop
 
+-- no command, and no malformed one
 abbrev pub none_seen : Seen
 none_seen = record { commands = []; stop = None }
 

@@ -73,6 +73,7 @@ object_outcome s names (BindBuffer target buffer) o = bind_buffer_outcome s targ
 object_outcome s names (BufferData target size «data» usage) o =
     store_outcome s (stored s.buffers target (record { bytes = bytes_of «data» size; usage = usage })) o (first o.stored)
 
+-- a call that is not refused
 abbrev pub outcome : EsState → List ℕ → Call → Oracle → Outcome EsState
 outcome s names (Object call) o = object_outcome s names call o
 

@@ -2,5 +2,6 @@
 use Rattle.gl_plain.specs.declared.stop.ExecStop.{ExecStop}
 use Rattle.gl_plain.specs.declared.stop.ExecStop.TheVariants.{NoMemory}
 
+-- a command ends for want of memory
 abbrev pub no_memory : ExecStop
 no_memory = NoMemory

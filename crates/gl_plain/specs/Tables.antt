@@ -39,24 +39,31 @@ pub record DriverState : Type 0 where
   pub buffers : BufferTables
   pub given : NamesGiven
 
+-- no buffer name is in use, and nothing is bound
 abbrev pub no_buffers : BufferTables
 no_buffers = record { names = map.empty; objects = map.empty; array = 0; element = 0 }
 
+-- the opening state (tables 6.2 to 6.19)
 abbrev pub opening : EsState
 opening = record { buffers = no_buffers; errors = no_errors }
 
+-- the opening state of the service
 abbrev pub opening_wire : WireState
 opening_wire = record { es = opening }
 
+-- the opening state of a driver
 abbrev pub opening_driver : DriverState
 opening_driver = record { buffers = no_buffers; given = record { buffers = set.empty } }
 
+-- the target of vertex data
 abbrev pub ARRAY_BUFFER : ℕ
 ARRAY_BUFFER = 0x8892
 
+-- the target of indices
 abbrev pub ELEMENT_ARRAY_BUFFER : ℕ
 ELEMENT_ARRAY_BUFFER = 0x8893
 
+-- ARRAY_BUFFER or ELEMENT_ARRAY_BUFFER (section 2.9)
 abbrev pub is_buffer_target : GlEnum → Bool
 is_buffer_target target = (target.0 == ARRAY_BUFFER) || (target.0 == ELEMENT_ARRAY_BUFFER)
 

@@ -27,6 +27,7 @@ command_reply (GenBuffer id) r = reply.None
 command_reply (BindBuffer target id) r = r
 command_reply (BufferData target size usage words) r = r
 
+-- what a call leaves, with its command's reply
 abbrev pub with_command_reply : ObjectCommand → Outcome EsState → Outcome EsState
 with_command_reply c out = record { state = out.state; oracle = out.oracle; reply = command_reply c out.reply }
 
@@ -34,6 +35,7 @@ with_command_reply c out = record { state = out.state; oracle = out.oracle; repl
 abbrev pub object_step : EsState → ObjectCommand → Oracle → Outcome EsState
 object_step s c o = with_command_reply c (outcome_by (command_refusal s c) s (names_given c) (call.Object (spelled c)) o)
 
+-- what a step of OpenGL ES leaves of the state of the service
 abbrev pub on_wire : WireState → Outcome EsState → Outcome WireState
 on_wire w out = record { state = record w { es = out.state }; oracle = out.oracle; reply = out.reply }
 
@@ -52,6 +54,7 @@ pub record Run : Type 0 where
 abbrev pub after_replies : List Reply → Run → Run
 after_replies replies run = record { replies = replies ++ run.replies; stop = run.stop; state = run.state }
 
+-- a run that stops at once, at a command whose arguments are malformed
 abbrev pub stopped_at : WireState → ℕ → Run
 stopped_at w place = record { replies = []; stop = Some (record { kind = InvalidArguments; place = place }); state = w }
 

@@ -3,15 +3,17 @@
 
 use gles2_run::{Desk, run};
 use io_edge::{StdSink, StdSource};
-use std::alloc::Global;
+use std::alloc::{AllocError, Global};
+use std::env::Args;
 use std::process::ExitCode;
-use std::rt::Env;
 use std::{env, io};
 
+const NO_MEMORY: u8 = 7;
+
 /// The words behind the program's name.
-fn words(rt: &(impl Env + AllocGlobal)) -> io::Result<Vec<String>> {
-    let mut words = Vec::new(rt.alloc());
-    for word in env::args(rt)?.skip(1) {
+fn words(alloc: Global, args: Args) -> Result<Vec<String>, AllocError> {
+    let mut words = Vec::new(alloc);
+    for word in args.skip(1) {
         words.push(word)?;
     }
     Ok(words)
@@ -20,7 +22,13 @@ fn words(rt: &(impl Env + AllocGlobal)) -> io::Result<Vec<String>> {
 // Arguments that are no text give no words, which are wrong ones.
 fn main(rt: HostRuntime) -> ExitCode {
     let alloc = rt.alloc();
-    let words = words(&rt).unwrap_or(Vec::new(alloc));
+    let words = match env::args(&rt) {
+        Ok(args) => words(alloc, args),
+        Err(_) => Ok(Vec::new(alloc)),
+    };
+    let Ok(words) = words else {
+        return ExitCode::from(NO_MEMORY);
+    };
     let mut source = StdSource::new(rt.reader());
     let mut sink = StdSink::new(io::writer(&rt));
     let (status, _desk) = run(alloc, &words, &mut source, &mut sink, Desk::new(alloc));

@@ -1,5 +1,5 @@
 -- How many lines a text has.
-use Rattle.std.proofs.Common.{◌≡◌, ◌≤◌, ℕ, ◌+◌, List, [], ◌∷◌, Bool, true, false, eqb, cond, length, arith}
+use Rattle.std.proofs.Common.{◌≤◌, ℕ, ◌+◌, List, [], ◌∷◌, Bool, true, false, eqb, cond, length, arith}
 use Rattle.std.specs.List.{onto_first}
 use Rattle.ring_script.specs.Script.{lines_of}
 

@@ -1,5 +1,5 @@
 -- From a run of the service to what a desk holds.
-use Rattle.std.proofs.Common.{◌≡◌, ◌⊎◌, ◌<◌, ◌≤◌, ℕ, ◌+◌, ◌-◌, ◌^◌, List, [], ◌∷◌, ◌++◌, refl, sym, ◌∙◌, ap, subst, arith, length, get_or, Option, Some, None, inl, inr}
+use Rattle.std.proofs.Common.{◌≡◌, ◌⊎◌, ◌<◌, ◌≤◌, ℕ, List, [], ◌∷◌, refl, sym, ◌∙◌, ap, subst, arith, length, get_or, Option, Some, None, inl, inr}
 use Rattle.gl_plain.specs.declared.commands.Stop.{Stop}
 use Rattle.gl_plain.specs.declared.calls.Reply.{Reply}
 use Rattle.gl_plain.specs.declared.driver_calls.DriverEntry.{DriverEntry}
@@ -17,7 +17,6 @@ use Rattle.gl_driver.specs.declared.stop.DriverStop.TheVariants as driver
 use Rattle.strict_driver.specs.StrictView.{StrictView}
 use Rattle.strict_driver.specs.StrictHistory.{new_driver, history_of, Continues, answers_left}
 use Rattle.decoder_core.specs.Served.{Ran, WasLost}
-use Rattle.gles2_run.specs.declared.desk.Desk.{Desk}
 use Rattle.gles2_run.specs.Desks.{new_desk}
 use Rattle.gles2_run.specs.Ends.{ring_run, HoldsRun}
 

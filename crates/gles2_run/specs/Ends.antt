@@ -3,9 +3,7 @@ use Rattle.std.specs.Prelude.{◌≡◌, ◌⊎◌, ◌<◌, ◌≤◌, ℕ, Boo
 use Rattle.std.specs.Io.KnownBytes.{Consumes, Appends, IsAtEnd}
 use Rattle.io_edge.specs.Causes.{Rose}
 use Rattle.io_edge.specs.Pieces.{ConsumesFront, AppendsFront}
-use Rattle.gl_plain.specs.declared.calls.Reply.{Reply}
 use Rattle.gl_plain.specs.declared.commands.Stop.{Stop}
-use Rattle.gl_plain.specs.declared.driver_calls.DriverEntry.{DriverEntry}
 use Rattle.gl_plain.specs.declared.script.Script.{Script}
 use Rattle.gl_plain.specs.Tables.{opening_wire, opening_driver}
 use Rattle.gl_plain.specs.Oracle.{Oracle, default_answers}

@@ -1,2 +1,3 @@
+-- The lemmas that proofs share.
 pub mod LinesSoFar
 pub mod Padded

@@ -1,3 +1,4 @@
+-- The definitions that contracts cite.
 pub mod Values
 pub mod Calls
 pub mod Lines

@@ -1,3 +1,4 @@
+-- The definitions that contracts cite.
 pub mod Fields
 pub mod Lines
 pub mod Rules

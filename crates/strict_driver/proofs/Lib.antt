@@ -1,1 +1,2 @@
+-- The lemmas that proofs share.
 pub mod OneMore

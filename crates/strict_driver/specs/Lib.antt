@@ -1,3 +1,4 @@
+-- The definitions that contracts cite.
 pub mod StrictView
 pub mod StrictInside
 pub mod StrictHistory

@@ -44,6 +44,7 @@ continues_further a b c p q = record {
   answers = told-append p.more q.more (answers_left c) ∙ ap (told p.more) q.answers ∙ p.answers;
 }
 
+-- how many names were given after a call on objects
 abbrev pub KeepsObjectCount : ℕ → ObjectDriver → Answer → ℕ → Type 0
 KeepsObjectCount names GenBuffer (Name n) after = (n ≡ names + 1) × (after ≡ names + 1)
 KeepsObjectCount names GenBuffer Done after = ⊥
@@ -53,6 +54,7 @@ KeepsObjectCount names (BufferData target bytes usage) Done after = after ≡ na
 KeepsObjectCount names (BufferData target bytes usage) Oom after = ⊥
 KeepsObjectCount names (BufferData target bytes usage) (Name n) after = ⊥
 
+-- how many names were given after a call
 abbrev pub KeepsCallCount : ℕ → DriverCall → Answer → ℕ → Type 0
 KeepsCallCount names (Object call) answer after = KeepsObjectCount names call answer after
 

@@ -11,6 +11,7 @@ use Rattle.gl_plain.specs.Oracle.{Oracle, counted_from, default_answers, told}
 use Rattle.strict_driver.specs.declared.strict.StrictDriver.TheInside.{Inside}
 use Rattle.strict_driver.specs.StrictView.{StrictView}
 
+-- what is seen of the fields
 abbrev pub view_of : Inside → StrictView
 view_of a = record { journal = a.journal; buffer_names = a.buffer_names; stop = a.stop }
 
@@ -29,5 +30,6 @@ pub record IsStrictJournal (journal : List DriverEntry) (names : ℕ) : Type 0 w
   pub names_given : (state_after opening_driver journal).given.buffers ≡ up_to names
   pub answers : told journal (answers_after names) ≡ default_answers
 
+-- what holds of the fields at all times
 abbrev pub IsStrict : Inside → Type 0
 IsStrict a = IsStrictJournal a.journal a.buffer_names

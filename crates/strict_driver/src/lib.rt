@@ -2,5 +2,7 @@
 #![tactic(auto)]
 
 mod strict;
+#[cfg(test)]
+mod tests;
 
 pub use strict::StrictDriver;

@@ -1,4 +1,4 @@
-use Rattle.std.proofs.Common.{◌∙◌, ap, refl, sym, [], ◌∷◌}
+use Rattle.std.proofs.Common.{◌∙◌, ap, refl, sym, []}
 use Rattle.gl_plain.specs.declared.calls.Reply.TheVariants as reply
 use Rattle.gl_plain.specs.Command as command
 use Rattle.gl_plain.specs.Oracle.{default_answers}
@@ -18,8 +18,11 @@ returns-in_err-bind_buffer g c =
 pub returns-in_err-bind : goal.returns-in_err-bind
 returns-in_err-bind g c =
     passes_no_memory (command.BindBuffer c.args.target c.args.id) c.args.buffers.now c.args.errors.now c.bind.new.self c.args.driver.now c.bind_buffer.new.self _ c.from_residual-in_err-bind.result c.from_residual-in_err-bind.ensures.1
-    c.in_ok-bind_buffer.ensures.served (λ s. (default_answers, [],
-        sym (calls_allowed (beside c.args.buffers.now c.args.errors.now s) (command.BindBuffer c.args.target c.args.id) _ (sym c.requires.allowed) ∙ rw c.requires.known refl)))
+    c.in_ok-bind_buffer.ensures.served (λ s. (
+      default_answers,
+      [],
+      sym (calls_allowed (beside c.args.buffers.now c.args.errors.now s) (command.BindBuffer c.args.target c.args.id) _ (sym c.requires.allowed) ∙ rw c.requires.known refl),
+    ))
 
 pub returns : goal.returns
 returns g c =

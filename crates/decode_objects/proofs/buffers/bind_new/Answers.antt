@@ -38,8 +38,11 @@ returns-in-Err g c =
     record {
       entries = _;
       served = c.in_ok-number.ensures.served;
-      outcome = λ s. (default_answers, bind_buffer_call c.args.target c.in_ok-number.number ∷ [],
-          sym (calls_allowed (beside c.args.buffers.now c.args.errors.now s) (command.BindBuffer c.args.target c.args.id) _ (sym c.requires.allowed) ∙ rw (c.requires.unknown, positive) refl));
+      outcome = λ s. (
+        default_answers,
+        bind_buffer_call c.args.target c.in_ok-number.number ∷ [],
+        sym (calls_allowed (beside c.args.buffers.now c.args.errors.now s) (command.BindBuffer c.args.target c.args.id) _ (sym c.requires.allowed) ∙ rw (c.requires.unknown, positive) refl),
+      );
     }
 
 pub returns-in-Ok : goal.returns-in-Ok

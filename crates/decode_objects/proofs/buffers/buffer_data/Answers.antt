@@ -1,7 +1,7 @@
 use Rattle.std.proofs.lemmas.Int.{to_z-of_z}
 use Rattle.std.specs.Prelude.{ℤ}
 use Rattle.std.specs.Int.{w32}
-use Rattle.std.proofs.Common.{◌∙◌, ap, refl, sym, [], ◌∷◌}
+use Rattle.std.proofs.Common.{◌∙◌, ap, refl, sym, []}
 use Rattle.gl_plain.specs.Command as command
 use Rattle.gl_plain.specs.declared.calls.Payload.TheVariants.{Absent}
 use Rattle.gl_plain.specs.declared.driver_calls.DriverCall.TheVariants as driver

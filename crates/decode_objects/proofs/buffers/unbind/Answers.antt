@@ -1,4 +1,4 @@
-use Rattle.std.proofs.Common.{refl, sym, [], ◌∷◌}
+use Rattle.std.proofs.Common.{refl, sym, []}
 use Rattle.gl_plain.specs.Command as command
 use Rattle.gl_plain.specs.Part.{bind_buffer_call}
 use Rattle.decode_objects.proofs.Exits.{passes_stop}

@@ -1,6 +1,6 @@
-use Rattle.std.proofs.Common.{◌≡◌, ℕ, ◌+◌, ◌-◌, ◌++◌, ◌∷◌, [], List, refl, sym, ◌∙◌, ap, arith, append_assoc, append-nil, None, inl, inr}
+use Rattle.std.proofs.Common.{◌≡◌, ℕ, ◌+◌, ◌-◌, ◌++◌, ◌∷◌, [], List, sym, ◌∙◌, ap, arith, append_assoc, append-nil, None, inl, inr}
 use Rattle.gl_plain.specs.declared.calls.Reply.{Reply}
-use Rattle.gl_plain.specs.Ring.{seen_from, none_seen, command_at}
+use Rattle.gl_plain.specs.Ring.{seen_from, command_at}
 use Rattle.gl_driver.proofs.Laws.{Served-nothing, Served-join}
 use Rattle.decoder_core.specs.Decoded.{state_of}
 use Rattle.decoder_core.proofs.SoFar.{SoFar-none, SoFar-step, seen_more, seen_none, run_ended, parts_ended}

@@ -1,7 +1,6 @@
-use Rattle.std.proofs.Common.{◌∙◌, sym, refl, ap}
-use Rattle.gl_plain.specs.Tables.{WireState, EsState, opening_driver}
+use Rattle.std.proofs.Common.{◌∙◌, sym, ap}
+use Rattle.gl_plain.specs.Tables.{WireState, opening_driver}
 use Rattle.gl_plain.specs.Journal.{state_after}
-use Rattle.gl_plain.specs.Agreement.{Agrees}
 use Rattle.gl_plain.proofs.BuffersAgree.{opening_agrees}
 use Rattle.gles2_run.specs.declared.desk.Desk.{Desk}
 use Rattle.gles2_run.proofs.Runs.{no_items, holds_nothing}

@@ -1,4 +1,3 @@
-use Rattle.std.proofs.Common.{arith}
 use Rattle.decoder_core.proofs.Commands.{object_number, executes, apart}
 use Rattle.decoder_core.proofs.decoder.Decoder.execute.Goals as goal
 
