@@ -1,0 +1,37 @@
+-- What range of shared memory the words of a command plan to read or to write.
+use Rattle.std.specs.Prelude.{◌≡◌, ℕ, ◌+◌, ◌*◌, ◌==◌, if◌then◌else◌, List, length, Option, None, Some, slice_index}
+use Rattle.std.specs.Option.{IsSomeAnd}
+use Rattle.cb_format.specs.declared.layouts.Layout.{Layout}
+use Rattle.cb_format.specs.declared.plans.Plan.{Plan}
+use Rattle.cb_format.specs.declared.plans.Plan.TheVariants.{Nothing, Read, Write}
+use Rattle.cb_format.specs.Layouts.{layout_of}
+
+-- the number has a layout, and the words are as many as it says
+abbrev pub IsLaidOut : ℕ → List ℕ → Type 0
+IsLaidOut number words = IsSomeAnd (layout_of number) (λ l. length words ≡ l.words)
+
+-- the words of data are a source, a count, and two more; source 1 is so many bytes of a region, the third word, from an offset, the fourth
+abbrev pub data_plan : ℕ → List ℕ → Plan
+data_plan at words =
+    if slice_index words at == 1 then Read (slice_index words (at + 2)) (slice_index words (at + 3)) (slice_index words (at + 1)) else Nothing
+
+-- the words of a reply are a region and an offset; the number of reply words goes there, and then as many as there can be
+abbrev pub reply_plan : ℕ → ℕ → List ℕ → Plan
+reply_plan at most words = Write (slice_index words at) (slice_index words (at + 1)) (4 + 4 * most)
+
+abbrev pub plan_by : Option ℕ → Option ℕ → ℕ → List ℕ → Plan
+plan_by (Some at) reply most words = data_plan at words
+plan_by None (Some at) most words = reply_plan at most words
+plan_by None None most words = Nothing
+
+abbrev pub plan_in : Option Layout → List ℕ → Plan
+plan_in (Some l) words = plan_by l.payload_at l.result_at l.result_words words
+plan_in None words = Nothing
+
+-- GetBucketData: the bucket, the offset in it, the count, the region, and the place in it, where so many bytes go
+abbrev pub bucket_plan : List ℕ → Plan
+bucket_plan words = Write (slice_index words 3) (slice_index words 4) (slice_index words 2)
+
+-- data with source 1 is read; replies, and the bytes of GetBucketData, are written
+abbrev pub plan_of : ℕ → List ℕ → Plan
+plan_of number words = if number == 5 then bucket_plan words else plan_in (layout_of number) words
