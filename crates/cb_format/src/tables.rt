@@ -1,5 +1,6 @@
 //! The table of layouts, by number.
-ghost use Rattle.std.specs.Prelude.{◌≡◌, IfSome};
+ghost use Rattle.std.specs.Prelude.{◌≡◌, IfSome, IsSome};
+ghost use Rattle.std.specs.Bool.{OnTrue};
 ghost use Rattle.cb_format.specs.Layouts.{IsFitting, is_known, layout_of};
 
 use crate::layouts::Layout;
@@ -56,7 +57,7 @@ const OF_ANY_SIZE: Layout = Layout {
 };
 
 /// The layouts of the commands of the buffer, 0 to 5.
-const BUFFER_LAYOUTS: [Layout; 6] = [
+static BUFFER_LAYOUTS: [Layout; 6] = [
     OF_ANY_SIZE, // 0 Noop
     plain!(1), // 1 SetToken
     plain!(2), // 2 SetBucketSize
@@ -66,7 +67,7 @@ const BUFFER_LAYOUTS: [Layout; 6] = [
 ];
 
 /// The layouts of the commands of OpenGL ES, 256 to 344.
-const GL_LAYOUTS: [Layout; 89] = [
+static GL_LAYOUTS: [Layout; 89] = [
     plain!(1), // 256 ActiveTexture
     plain!(1), // 257 GenBuffers
     plain!(2), // 258 BindBuffer
@@ -159,7 +160,6 @@ const GL_LAYOUTS: [Layout; 89] = [
 ];
 
 /// The layout of a command, or None for a number that no command has.
-
 pub fn layout(number: u32) -> Option<Layout>
     ensures value { result ≡ layout_of number }
     ensures fitting { IfSome result IsFitting }
@@ -171,9 +171,11 @@ pub fn layout(number: u32) -> Option<Layout>
     }
 }
 
-/// Whether the command is built so far.
+/// Whether the command is one of those that are built so far.
+#[tactic(auto, using(crate::proofs::Built::known_is_laid_out))]
 pub fn known(number: u32) -> bool
-    ensures { result ≡ is_known number }
+    ensures value { result ≡ is_known number }
+    ensures laid_out { OnTrue result (IsSome (layout_of number)) }
 {
     matches!(number, 0 | 1 | 257..=259 | 327)
 }
