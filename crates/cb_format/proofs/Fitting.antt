@@ -1,5 +1,6 @@
 -- That each row's layout is fitting.
-use Rattle.std.proofs.Common.{◌≡◌, ℕ, ◌+◌, ◌==◌, ◌&&◌, ◌++◌, Bool, true, false, not, cond, nat_le, List, [], ◌∷◌, refl, Option, None, Some, is_some, IfSome, arith}
+use Rattle.std.proofs.Common.{◌≡◌, ℕ, ◌+◌, ◌==◌, ◌&&◌, ◌||◌, ◌++◌, Bool, true, false, not, cond, nat_le, List, [], ◌∷◌, refl, Option, None, Some, is_some, IfSome, arith}
+use Rattle.std.specs.Option.{OnSome}
 use Rattle.std.specs.List.{list_all}
 use Rattle.std.specs.Map.{lookup}
 use Rattle.std.proofs.lemmas.Bool.Decides.{nat_tests}
@@ -11,21 +12,29 @@ abbrev ends : Option ℕ → ℕ → ℕ → Bool
 ends None count words = true
 ends (Some at) count words = at + count == words
 
-abbrev fits_by : ℕ → ℕ → Option ℕ → Option ℕ → Bool
-fits_by words most payload reply = nat_le words 16 && (nat_le most 16 && (ends payload 4 words && (ends reply 2 words && not (is_some payload && is_some reply))))
+last : (place : Option ℕ) (count words : ℕ) → ends place count words ≡ true → IfSome place (λ at. at + count ≡ words)
+last None count words h = tt
+last (Some at) count words h = grind (arith, nat_tests)
+
+alone : (payload reply : Option ℕ) → not (is_some payload && is_some reply) ≡ true → OnSome payload (reply ≡ None)
+alone None reply h = tt
+alone (Some at) None h = refl
+alone (Some at) (Some place) h = cc
 
 abbrev fits : Layout → Bool
-fits l = fits_by l.words l.result_words l.payload_at l.result_at
-
-fitting_by : (words most : ℕ) (free : Bool) (payload reply : Option ℕ) → fits_by words most payload reply ≡ true
-    → IsFitting (record { words = words; any_size = free; payload_at = payload; result_at = reply; result_words = most })
-fitting_by words most free None None h = record { words_fit = grind (arith, nat_tests); reply_fits = grind (arith, nat_tests); payload_ends = tt; result_ends = tt; one_alone = tt }
-fitting_by words most free (Some at) None h = record { words_fit = grind (arith, nat_tests); reply_fits = grind (arith, nat_tests); payload_ends = grind (arith, nat_tests); result_ends = tt; one_alone = refl }
-fitting_by words most free None (Some at) h = record { words_fit = grind (arith, nat_tests); reply_fits = grind (arith, nat_tests); payload_ends = tt; result_ends = grind (arith, nat_tests); one_alone = tt }
-fitting_by words most free (Some at) (Some place) h = absurd (grind (arith, nat_tests))
+fits l =
+    nat_le l.words 16 && ((not l.any_size || (l.words == 0)) && (nat_le l.result_words 16
+    && (ends l.payload_at 4 l.words && (ends l.result_at 2 l.words && not (is_some l.payload_at && is_some l.result_at)))))
 
 fitting : (l : Layout) → fits l ≡ true → IsFitting l
-fitting l h = fitting_by l.words l.result_words l.any_size l.payload_at l.result_at h
+fitting l h = record {
+  words_fit = grind (arith, nat_tests);
+  free_has_none = λ f. grind (arith, nat_tests);
+  reply_fits = grind (arith, nat_tests);
+  payload_ends = last l.payload_at 4 l.words (grind (arith, nat_tests));
+  result_ends = last l.result_at 2 l.words (grind (arith, nat_tests));
+  one_alone = alone l.payload_at l.result_at (grind (arith, nat_tests));
+}
 
 found : (test : ℕ → Bool) (rows : List (ℕ × Layout)) → list_all (λ (r : ℕ × Layout). fits r.1) rows ≡ true → IfSome (lookup test rows) IsFitting
 found test [] h = tt

@@ -7,6 +7,6 @@ use Rattle.cb_format.specs.declared.headers.Header.{Header}
 abbrev pub header_of : ℕ → Header
 header_of word = record { size = size_in word; number = number_in word }
 
--- the word whose low 21 bits are the size, and whose high bits are the number
+-- the word whose low 21 bits are a size below 2 ^ 21, and whose high bits are the number
 abbrev pub header_word : Header → ℕ
 header_word h = h.number * 2 ^ 21 + h.size

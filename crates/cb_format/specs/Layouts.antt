@@ -126,9 +126,11 @@ gl_rows =
     (344, with_reply 3 1) ∷  -- GetMaxIndex offset:u count:i kind:e R(1)
     []
 
--- words that are read fit 16; those of data are the last four, those of a reply the last two, and no command has both
+-- a command has at most 16 words, and none where its size is free; a reply has at most 16 words; the words of data are the last four,
+-- those of a reply the last two, and no command has both
 pub record IsFitting (l : Layout) : Type 0 where
   pub words_fit : l.words ≤ 16
+  pub free_has_none : l.any_size ≡ true → l.words ≡ 0
   pub reply_fits : l.result_words ≤ 16
   pub payload_ends : IfSome l.payload_at (λ at. at + 4 ≡ l.words)
   pub result_ends : IfSome l.result_at (λ at. at + 2 ≡ l.words)
