@@ -1,0 +1,21 @@
+//! The wire format of a command buffer: headers, the layouts of all commands, what range a command plans to read or to write, and
+//! commands as bytes.
+#![tactic(auto)]
+
+mod commands;
+mod headers;
+mod layouts;
+mod plans;
+mod ranges;
+mod tables;
+
+pub use commands::Command;
+pub use gl_plain::Fetched;
+pub use headers::Header;
+pub use layouts::Layout;
+pub use plans::Plan;
+pub use ranges::plan;
+pub use tables::{known, layout};
+
+#[cfg(test)]
+mod tests;
