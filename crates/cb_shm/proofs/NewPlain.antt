@@ -44,7 +44,7 @@ bytes_chosen false true c x y z q = refl
 bytes_chosen false false true x y z q = refl
 bytes_chosen false false false x y z q = refl
 
-sizes_chosen : (size : Option ℕ) (q : ℕ) → option_map length (option_map (patched_zeros [] q) size) ≡ size
+pub sizes_chosen : (size : Option ℕ) (q : ℕ) → option_map length (option_map (patched_zeros [] q) size) ≡ size
 sizes_chosen None q = refl
 sizes_chosen (Some n) q = ap (λ (m : ℕ). Some m) (length-replicate n 0)
 

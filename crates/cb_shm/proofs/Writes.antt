@@ -20,7 +20,7 @@ patched-append [] qs region bytes = refl
 patched-append (p ∷ ps) qs region bytes = patched-append ps qs region (if p.region == region then overwritten bytes p.offset p.bytes else bytes)
 
 -- the sizes of the regions stay, as seen at the region that is written
-size_here : (found : Option (List ℕ)) (at : ℕ) (new : List ℕ) → EndsWithin (option_map length found) at (length new) → Some (length (overwritten (unwrap_or found []) at new)) ≡ option_map length found
+pub size_here : (found : Option (List ℕ)) (at : ℕ) (new : List ℕ) → EndsWithin (option_map length found) at (length new) → Some (length (overwritten (unwrap_or found []) at new)) ≡ option_map length found
 size_here None at new inside = absurd inside
 size_here (Some old) at new inside = ap (λ (n : ℕ). Some n) (length-overwritten old new at inside)
 

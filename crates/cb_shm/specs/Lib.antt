@@ -4,3 +4,8 @@ pub mod Patched
 pub mod PlainView
 pub mod PlainInside
 pub mod Plain
+pub mod Hostile
+pub mod Whole
+pub mod Applied
+pub mod Waiting
+pub mod HostileMemories

@@ -3,11 +3,16 @@
 
 mod block;
 mod entries;
+mod hostile;
 mod log;
+mod patching;
 mod plain;
 mod regions;
+mod script;
 mod shm;
 
 pub use entries::{CopyEntry, CopyList, PutEntry, PutList};
+pub use hostile::HostileMemory;
 pub use plain::PlainMemory;
+pub use script::{Region, RegionList, Script, Timed, TimedList};
 pub use shm::{Shm, ShmRefusal};
