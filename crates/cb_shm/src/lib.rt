@@ -16,3 +16,6 @@ pub use hostile::HostileMemory;
 pub use plain::PlainMemory;
 pub use script::{Region, RegionList, Script, Timed, TimedList};
 pub use shm::{Shm, ShmRefusal};
+
+#[cfg(test)]
+mod tests;
