@@ -1,0 +1,5 @@
+mod Writes
+mod NewPlain
+mod Applies
+mod Files
+mod Described

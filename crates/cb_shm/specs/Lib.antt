@@ -1,0 +1,11 @@
+pub mod Memory
+pub mod Blocks
+pub mod Patched
+pub mod PlainView
+pub mod PlainInside
+pub mod Plain
+pub mod Hostile
+pub mod Whole
+pub mod Applied
+pub mod Waiting
+pub mod HostileMemories

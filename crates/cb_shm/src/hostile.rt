@@ -1,0 +1,104 @@
+//! Memory that a script describes, whose client writes between copies.
+ghost use Rattle.std.specs.Prelude.{◌≡◌, ◌≤◌, ◌*◌, [], IfOk};
+ghost use Rattle.std.specs.FinMap as map;
+ghost use Rattle.cb_shm.specs.Applied.{zero_blocks};
+ghost use Rattle.cb_shm.specs.Whole.{IsWholeScript};
+ghost use Rattle.cb_shm.specs.HostileMemories.{IsMemoryOf};
+
+use crate::log::{list_copy, list_put};
+use crate::patching::{apply, come_due, file_all};
+use crate::regions::Regions;
+use crate::{CopyList, PutList, Region, Script, Shm, ShmRefusal};
+use gl_base::NumberMap;
+use gl_plain::PatchList;
+use std::alloc::{AllocError, Global};
+
+/// Memory that a script describes. Each copy gives the bytes that the script sets for its number. The memory keeps its own bytes
+/// when the service writes: a put is listed, and changes no byte.
+#[derive(Drop)]
+pub struct HostileMemory {
+    alloc: Global,
+    /// The bytes that the next copy will meet.
+    regions: Regions,
+    /// What is still to be written, by the number of the copy.
+    waiting: NumberMap<PatchList>,
+    copies: CopyList,
+    puts: PutList,
+}
+
+/// The ring and the listed regions, all zero.
+fn zero_regions(alloc: Global, entries: u32, listed: &[Region]) -> Result<Regions, AllocError>
+    requires { entries ≤ 1048576 }
+    ensures { IfOk result (λ regions. regions ≡ zero_blocks entries listed.now) }
+{
+    let mut regions = Regions::new(alloc);
+    for region in listed {
+        regions.add(alloc, region.id, region.size)?;
+    }
+    regions.add(alloc, 0, 4 * entries)?;
+    Ok(regions)
+}
+
+impl HostileMemory {
+    /// The memory of a script, of which no copy was made.
+    pub fn new(alloc: Global, script: &Script) -> Result<HostileMemory, AllocError>
+        requires { IsWholeScript script.now }
+        ensures described { IfOk result (λ memory. IsMemoryOf script.now memory) }
+        ensures no_copies { IfOk result (λ memory. memory.copies ≡ []) }
+        ensures no_puts { IfOk result (λ memory. memory.puts ≡ []) }
+    {
+        let mut regions = zero_regions(alloc, script.entries, script.regions.as_slice())?;
+        apply(&mut regions, script.opening.as_slice());
+        let mut waiting = file_all(alloc, script.timed.as_slice())?;
+        come_due(&mut regions, &mut waiting, 0);
+        Ok(HostileMemory {
+            alloc,
+            regions,
+            waiting,
+            copies: CopyList::new(alloc),
+            puts: PutList::new(alloc),
+        })
+    }
+}
+
+impl Shm for HostileMemory {
+    ghost use Rattle.cb_shm.specs.HostileMemories.{memory_of, HasSameScript, same_script_itself, same_script_further};
+
+    ghost memory = { memory_of };
+
+    ghost grown = { HasSameScript };
+
+    fn size(&self, region: u32) -> Option<u32> {
+        self.regions.size(region)
+    }
+
+    fn copy(&mut self, region: u32, offset: u32, out: &mut [u8]) -> Result<(), ShmRefusal> {
+        let Some(bytes) = self.regions.part(region, offset, out.len()) else {
+            return Err(ShmRefusal::NoRegion);
+        };
+        match list_copy(self.alloc, &mut self.copies, region, offset, bytes) {
+            Ok(()) => {
+                out.copy_from_slice(bytes);
+                let next = self.copies.len() as u64;
+                come_due(&mut self.regions, &mut self.waiting, next);
+                Ok(())
+            }
+            Err(_) => Err(ShmRefusal::NoMemory),
+        }
+    }
+
+    fn put(&mut self, region: u32, offset: u32, bytes: &[u8]) -> Result<(), ShmRefusal> {
+        if !self.regions.contains(region, offset, bytes.len()) {
+            return Err(ShmRefusal::NoRegion);
+        }
+        let copies = self.copies.len() as u64;
+        match list_put(self.alloc, &mut self.puts, region, offset, bytes, copies) {
+            Ok(()) => Ok(()),
+            Err(_) => Err(ShmRefusal::NoMemory),
+        }
+    }
+
+    ghost grown_itself = { same_script_itself };
+
+    ghost grown_further = { same_script_further };
+}
