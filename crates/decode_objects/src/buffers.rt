@@ -16,7 +16,8 @@ use gl_driver::{Driver, Stored};
 use gl_plain::{Buffer, Bytes, DataWords, Errors, ExecStop, GlError, Malformed, Name, Reply};
 use std::alloc::Global;
 
-/// GenBuffers, for one id that the client gives.
+/// GenBuffers, for one id that the client gives: it comes into use with a new name of the driver's. An id that may not be given, or is
+/// in use, is malformed. A refused one makes no driver call, and its code is recorded.
 #[tactic(auto, using(crate::proofs::Rules::exits))]
 pub fn gen_buffer<D: Driver>(
     buffers: &mut Buffers,
@@ -106,7 +107,8 @@ fn bind_new<D: Driver>(
     }
 }
 
-/// BindBuffer.
+/// BindBuffer: the id 0 binds nothing, and any other comes into use where it is not yet. The object is there from its first bind on.
+/// An id that may not be given is malformed. A refused call makes no driver call, and its code is recorded.
 #[tactic(auto, using(crate::proofs::Rules::exits))]
 pub fn bind_buffer<D: Driver>(
     buffers: &mut Buffers,
@@ -134,7 +136,8 @@ pub fn bind_buffer<D: Driver>(
     }
 }
 
-/// BufferData without data: as many zeros.
+/// BufferData without data: the bound buffer gets so many zero bytes. Words that bring data are malformed. A refused call makes no driver
+/// call, and its code is recorded. Where the driver has no room, OUT_OF_MEMORY is recorded and the buffer stays as it was.
 #[tactic(auto, using(crate::proofs::Rules::exits))]
 pub fn buffer_data<D: Driver>(
     alloc: Global,

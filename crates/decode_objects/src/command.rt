@@ -11,7 +11,8 @@ use gl_driver::Driver;
 use gl_plain::{DataWords, Errors, ExecStop, Fetched, Reply};
 use std::alloc::Global;
 
-/// Executes a command on objects: GenBuffers 257, BindBuffer 258 or BufferData 259.
+/// Executes a command on objects by its number and its words: GenBuffers 257, BindBuffer 258 or BufferData 259. It answers as the
+/// function of that command.
 #[tactic(auto, unfolding(gl_plain::specs::Command::layout_of))]
 pub fn object_command<D: Driver>(
     alloc: Global,

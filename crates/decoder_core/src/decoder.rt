@@ -31,7 +31,8 @@ impl Decoder {
         }
     }
 
-    /// Executes a command. It sees the command as it was read, and no memory that the client can change.
+    /// Executes a command. It sees the command as it was read, and no memory that the client can change. `Bad` where its arguments are
+    /// malformed, and then nothing was done. After `Lost` or `NoMemory` the tables may no longer agree with the driver's.
     pub fn execute<D: Driver>(
         &mut self,
         command: &Fetched,

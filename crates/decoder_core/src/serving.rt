@@ -54,7 +54,8 @@ fn turn<D: Driver>(
     }
 }
 
-/// Executes the commands from entry 0 up to put, or up to the first that is malformed, and adds their replies.
+/// Executes the commands from entry 0 up to put, or up to the first that is malformed, and adds their replies. The ring has so many
+/// entries of four bytes; a put that is not below their number is malformed.
 pub fn serve<D: Driver>(
     alloc: Global,
     decoder: &mut Decoder,
