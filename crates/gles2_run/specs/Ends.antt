@@ -55,13 +55,17 @@ pub record HoldsRun (script : Script) (desk : Desk) : Type 0 where
   pub agrees : Agrees (ring_run script).state.es (state_after opening_driver desk.driver.journal)
 
 -- the input is a script, which was run to its end, or to the malformed command that the run stops at
-pub record RanTo (before now : Option (List ℕ)) (ended : Type 0) (stop : Option Stop) (desk : Desk) : Type 0 where
-  pub input : List ℕ
+pub record HoldsRunOf (input : List ℕ) (stop : Option Stop) (desk : Desk) : Type 0 where
   pub script : Script
-  pub read : IsInput before now ended input
   pub text : script_in input ≡ Ok script
   pub stopped : (ring_run script).stop ≡ stop
   pub run : HoldsRun script desk
+
+-- the source gave such an input
+pub record RanTo (before now : Option (List ℕ)) (ended : Type 0) (stop : Option Stop) (desk : Desk) : Type 0 where
+  pub input : List ℕ
+  pub read : IsInput before now ended input
+  pub ran : HoldsRunOf input stop desk
 
 -- the input has a line outside the grammar, of which the first is named
 pub record HasBadLine (before now : Option (List ℕ)) (ended : Type 0) (number : ℕ) : Type 0 where
@@ -72,8 +76,8 @@ pub record HasBadLine (before now : Option (List ℕ)) (ended : Type 0) (number 
 -- what an end says of an input that was read whole
 abbrev pub TextMeans : End → List ℕ → Desk → Type 0
 TextMeans (BadLine number) input desk = (script_in input ≡ Err number) × (desk ≡ new_desk)
-TextMeans Done input desk = (script : Script) × (script_in input ≡ Ok script) × ((ring_run script).stop ≡ None) × HoldsRun script desk
-TextMeans (Stopped stop) input desk = (script : Script) × (script_in input ≡ Ok script) × ((ring_run script).stop ≡ Some stop) × HoldsRun script desk
+TextMeans Done input desk = HoldsRunOf input None desk
+TextMeans (Stopped stop) input desk = HoldsRunOf input (Some stop) desk
 TextMeans NoMemory input desk = Unit {0}
 TextMeans Usage input desk = ⊥
 TextMeans ReadFault input desk = ⊥
