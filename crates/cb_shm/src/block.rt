@@ -30,12 +30,14 @@ impl Block {
         Ok(Block { bytes })
     }
 
+    /// Its size in bytes.
     pub fn size(&self) -> u32
         ensures { result ≡ length self.now }
     {
         self.bytes.len() as u32
     }
 
+    /// Its bytes.
     pub fn as_slice(&self) -> &[u8]
         ensures { result.now ≡ self.now }
     {

@@ -10,6 +10,7 @@ pub struct CopyEntry {
     pub bytes: Bytes,
 }
 
+/// Copies in the order in which they were made.
 pub type CopyList = Seq<CopyEntry>;
 
 /// Bytes that the service put into a region, and how many copies were made before.
@@ -21,4 +22,5 @@ pub struct PutEntry {
     pub copies: u64,
 }
 
+/// Puts in the order in which they were made.
 pub type PutList = Seq<PutEntry>;

@@ -9,6 +9,7 @@ pub struct Region {
     pub size: u32,
 }
 
+/// Regions in the order of their lines.
 pub type RegionList = Seq<Region>;
 
 /// Bytes that the client writes just before the copy of this number, the first copy of a run being number 0.
@@ -20,6 +21,7 @@ pub struct Timed {
     pub bytes: Bytes,
 }
 
+/// Overwrites in the order of their lines.
 pub type TimedList = Seq<Timed>;
 
 /// A script: how many entries the ring has, the other regions, what stands in them at first (later patches over earlier ones, and
