@@ -46,4 +46,5 @@ pub enum Reply {
     Names(Names),
 }
 
+/// The replies of a run, in the order of its commands.
 pub type ReplyList = Seq<Reply>;

@@ -48,4 +48,5 @@ pub struct DriverEntry {
     pub answer: Answer,
 }
 
+/// A journal: the entries in the order of the calls.
 pub type EntryList = Seq<DriverEntry>;

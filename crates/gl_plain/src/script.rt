@@ -10,6 +10,7 @@ pub struct Patch {
     pub bytes: Bytes,
 }
 
+/// Patches in the order of their lines.
 pub type PatchList = Seq<Patch>;
 
 /// A script: how many entries the ring has, what stands in it at first (later patches over earlier ones, and zeros elsewhere),
