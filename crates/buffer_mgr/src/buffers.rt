@@ -1,10 +1,13 @@
 //! The buffers of the service (OpenGL ES 2.0.25, section 2.9).
-ghost use Rattle.std.specs.Prelude.{◌≡◌, OnOk, OnErr, Some, IsSome};
+ghost use Rattle.std.specs.Prelude.{◌≡◌, OnOk, OnErr, Some, IsSome, is_none, length};
+ghost use Rattle.std.specs.Bool.{OnTrue, OnFalse};
 ghost use Rattle.std.specs.FinMap as map;
 ghost use Rattle.std.specs.Option.{option_copied};
 ghost use Rattle.gl_base.specs.Names as limits;
 ghost use Rattle.gl_plain.specs.Tables as plain;
-ghost use Rattle.gl_plain.specs.Effect.{with_name, with_binding, with_bind, stored, new_name};
+ghost use Rattle.gl_plain.specs.Effect.{with_name, with_binding, with_bind, stored, new_name, changed, deleted, without};
+ghost use Rattle.gl_plain.specs.AttribEffect.{object_of};
+ghost use Rattle.gl_plain.specs.Refusal.{range_refusal};
 ghost use Rattle.svc_names.specs.Answers.{IsAnswer};
 
 use gl_base::{GlEnum, NumberMap};
@@ -33,6 +36,13 @@ pub fn is_buffer_target(target: GlEnum) -> bool
     ensures { result ≡ plain.is_buffer_target target }
 {
     target == ARRAY_BUFFER || target == ELEMENT_ARRAY_BUFFER
+}
+
+/// The number that is bound where this object goes: 0 in place of its number.
+fn without(object: u64, bound: u64) -> u64
+    ensures { result ≡ without object bound }
+{
+    if bound == object { 0 } else { bound }
 }
 
 impl Buffers {
@@ -81,6 +91,17 @@ impl Buffers {
         ensures { option_copied result ≡ plain.bound (tables self.now) target }
     {
         self.objects.get(self.binding(target))
+    }
+
+    /// The number of the buffer that ARRAY_BUFFER binds, if it binds one.
+    pub fn array_object(&self) -> Option<u64>
+        ensures { result ≡ object_of (tables self.now).array }
+    {
+        if self.array == 0 {
+            None
+        } else {
+            Some(self.array)
+        }
     }
 
     fn set_binding(&mut self, target: GlEnum, number: u64)
@@ -145,5 +166,48 @@ impl Buffers {
     {
         let number = self.binding(target);
         self.objects.replace(number, buffer);
+    }
+
+    /// Whether the target binds a buffer that has so many bytes from an offset on.
+    fn has_range(&self, target: GlEnum, offset: u32, count: usize) -> bool
+        ensures { result ≡ is_none (range_refusal (plain.bound (tables self.now) target) offset count) }
+    {
+        match self.bound(target) {
+            Some(buffer) => {
+                let len = buffer.bytes.len();
+                offset as usize <= len && count <= len - offset as usize
+            }
+            None => false,
+        }
+    }
+
+    /// Puts bytes in place of those that the bound buffer has from an offset on. False, and all is as before, where nothing is bound or
+    /// the range is outside. It takes no memory.
+    pub fn change(&mut self, target: GlEnum, offset: u32, bytes: &[u8]) -> bool
+        ensures inside { result ≡ is_none (range_refusal (plain.bound (tables self.old) target) offset (length bytes.now)) }
+        ensures done { OnTrue result (tables self.new ≡ changed (tables self.old) target offset bytes.now) }
+        ensures refused { OnFalse result (tables self.new ≡ tables self.old) }
+    {
+        if !self.has_range(target, offset, bytes.len()) {
+            return false;
+        }
+        let number = self.binding(target);
+        if let Some(buffer) = self.objects.get_mut(number) {
+            buffer.bytes.overwrite(offset as usize, bytes);
+        }
+        true
+    }
+
+    /// Deletes a name with its object, and nothing binds that from then on. A name that is not in use changes nothing. It takes no
+    /// memory.
+    pub fn delete(&mut self, id: u32)
+        ensures { tables self.new ≡ deleted (tables self.old) id }
+    {
+        let Some(name) = self.names.remove(id) else {
+            return;
+        };
+        self.objects.remove(name.number);
+        self.array = without(name.number, self.array);
+        self.element = without(name.number, self.element);
     }
 }

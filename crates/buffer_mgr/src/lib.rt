@@ -4,3 +4,6 @@
 mod buffers;
 
 pub use buffers::{Buffers, is_buffer_target};
+
+#[cfg(test)]
+mod tests;

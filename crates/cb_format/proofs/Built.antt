@@ -1,25 +1,24 @@
 -- That each command that is built has a layout.
-use Rattle.std.proofs.Common.{◌≡◌, ℕ, true, refl, sym, subst, IsSome, arith, ◌⊎◌, inl, inr}
+use Rattle.std.proofs.Common.{◌≡◌, ◌⊎◌, ℕ, true, refl, sym, ◌∙◌, subst, inl, inr, arith, ◌<◌, ◌≤◌, ◌-◌, List, length, IsSome, zero, suc, [], ◌∷◌}
+use Rattle.std.specs.Prelude.{slice_get}
 use Rattle.std.proofs.lemmas.Bool.Decides.{nat_tests}
-use Rattle.cb_format.specs.Layouts.{is_known, layout_of}
+use Rattle.gl_plain.specs.declared.commands.Layout.{Layout}
+use Rattle.gl_plain.specs.Layouts.{is_known, layout_of}
+use Rattle.cb_format.specs.declared.tables.TheConstants.{BUFFER_LAYOUTS, GL_LAYOUTS}
+use Rattle.cb_format.proofs.Numbered.{layout_of_buffer, layout_of_gl}
 
-at : (number built : ℕ) → number ≡ built → IsSome (layout_of built) → IsSome (layout_of number)
-at number built e has = subst (λ n. IsSome (layout_of n)) (sym e) has
+there : (layouts : List Layout) (i : ℕ) → i < length layouts → IsSome (slice_get layouts i)
+there [] i h = absurd (omega arith)
+there (l ∷ ls) zero h = refl
+there (l ∷ ls) (suc i) h = there ls i (omega arith)
 
-abbrev IsBuilt : ℕ → Type 0
-IsBuilt n = (n ≡ 0) ⊎ ((n ≡ 1) ⊎ ((n ≡ 257) ⊎ ((n ≡ 258) ⊎ ((n ≡ 259) ⊎ (n ≡ 327)))))
+-- a command that is built is one of the first two, or one of OpenGL ES
+known_range : (n : ℕ) → is_known n ≡ true → (n < 2) ⊎ ((256 ≤ n) × (n - 256 < 89))
+known_range n h = grind (arith, nat_tests)
 
-built_is_laid_out : (n : ℕ) → IsBuilt n → IsSome (layout_of n)
-unfolding layout_of
-built_is_laid_out n (inl e) = at n 0 e refl
-built_is_laid_out n (inr (inl e)) = at n 1 e refl
-built_is_laid_out n (inr (inr (inl e))) = at n 257 e refl
-built_is_laid_out n (inr (inr (inr (inl e)))) = at n 258 e refl
-built_is_laid_out n (inr (inr (inr (inr (inl e))))) = at n 259 e refl
-built_is_laid_out n (inr (inr (inr (inr (inr e))))) = at n 327 e refl
-
-built : (n : ℕ) → is_known n ≡ true → IsBuilt n
-built n h = grind (arith, nat_tests)
+in_range : (n : ℕ) → (n < 2) ⊎ ((256 ≤ n) × (n - 256 < 89)) → IsSome (layout_of n)
+in_range n (inl below) = subst (λ o. IsSome o) (sym (layout_of_buffer n (omega arith))) (there BUFFER_LAYOUTS n (omega arith))
+in_range n (inr within) = subst (λ o. IsSome o) (sym (layout_of_gl n (n - 256) (omega arith))) (there GL_LAYOUTS (n - 256) (omega arith))
 
 pub known_is_laid_out : (n : ℕ) → is_known n ≡ true → IsSome (layout_of n)
-known_is_laid_out n h = built_is_laid_out n (built n h)
+known_is_laid_out n h = in_range n (known_range n h)

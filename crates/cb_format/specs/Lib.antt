@@ -1,4 +1,2 @@
 pub mod Headers
-pub mod Layouts
-pub mod Plans
 pub mod Spelled

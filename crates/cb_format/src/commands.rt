@@ -1,6 +1,7 @@
 //! Commands as bytes.
 ghost use Rattle.std.specs.Prelude.{◌≡◌, ◌<◌, ◌^◌, ◌+◌, ◌*◌, length};
-ghost use Rattle.cb_format.specs.Spelled.{spelled, entries_of};
+ghost use Rattle.gl_plain.specs.Bytes.{bytes_of_words};
+ghost use Rattle.cb_format.specs.Spelled.{entries_of};
 
 use crate::headers::Header;
 use arrayvec::ArrayVec;
@@ -18,7 +19,7 @@ impl Command {
     pub fn write(&self, out: &mut [u8])
         requires number { self.now.number < 2 ^ 11 }
         requires size { length out.old ≡ 4 * (1 + length self.now.words.items) }
-        ensures { out.new ≡ spelled (entries_of self.now) }
+        ensures { out.new ≡ bytes_of_words (entries_of self.now) }
     {
         let words = self.words.as_slice();
         let header = Header {

@@ -4,16 +4,12 @@
 
 mod commands;
 mod headers;
-mod layouts;
-mod plans;
 mod ranges;
 mod tables;
 
 pub use commands::Command;
-pub use gl_plain::Fetched;
+pub use gl_plain::{Fetched, Layout, Plan};
 pub use headers::Header;
-pub use layouts::Layout;
-pub use plans::Plan;
 pub use ranges::plan;
 pub use tables::{known, layout};
 

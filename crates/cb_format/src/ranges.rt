@@ -1,9 +1,9 @@
 //! The range that a command plans to read or to write.
 ghost use Rattle.std.specs.Prelude.{◌≡◌, ◌≤◌, ◌+◌, length};
-ghost use Rattle.cb_format.specs.Plans.{IsLaidOut, bucket_plan, data_plan, plan_of, reply_plan};
+ghost use Rattle.gl_plain.specs.Plans.{IsLaidOut, bucket_plan, data_plan, plan_of, reply_plan};
 
-use crate::plans::Plan;
 use crate::tables::layout;
+use gl_plain::Plan;
 
 /// The number of GetBucketData, whose words are a bucket, an offset in it, a count, a region and a place.
 const GET_BUCKET_DATA: u32 = 5;

@@ -1,9 +1,9 @@
 //! The table of layouts, by number.
 ghost use Rattle.std.specs.Prelude.{◌≡◌, IfSome, IsSome};
 ghost use Rattle.std.specs.Bool.{OnTrue};
-ghost use Rattle.cb_format.specs.Layouts.{IsFitting, is_known, layout_of};
+ghost use Rattle.gl_plain.specs.Layouts.{IsFitting, is_known, layout_of};
 
-use crate::layouts::Layout;
+use gl_plain::Layout;
 
 /// The number of the first command of OpenGL ES.
 const FIRST_OF_GL: u32 = 256;
@@ -177,5 +177,5 @@ pub fn known(number: u32) -> bool
     ensures value { result ≡ is_known number }
     ensures laid_out { OnTrue result (IsSome (layout_of number)) }
 {
-    matches!(number, 0 | 1 | 257..=259 | 327)
+    matches!(number, 0 | 1 | 257..=261 | 293..=296 | 327)
 }

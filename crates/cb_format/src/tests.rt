@@ -23,7 +23,8 @@ fn tables_end_where_they_do(rt: HostRuntime) {
     assert!(rt; layout(344).is_some());
     assert_eq!(rt; layout(345), None);
     assert_eq!(rt; layout(u32::MAX), None);
-    assert!(rt; known(259) && known(327) && !known(260) && !known(256));
+    assert!(rt; known(261) && !known(262) && !known(292) && known(296) && !known(297));
+    assert!(rt; known(327) && !known(256));
 }
 
 #[test]
@@ -57,7 +58,7 @@ fn each_shape_has_its_words(rt: HostRuntime) {
 }
 
 #[test]
-#[tactic(auto, unfolding(crate::specs::Layouts::layout_of))]
+#[tactic(auto, unfolding(gl_plain::specs::Layouts::layout_of))]
 fn data_is_read_from_shared_memory_alone(rt: HostRuntime) {
     let shared = Plan::Read {
         region: 9,
@@ -77,7 +78,7 @@ fn data_is_read_from_shared_memory_alone(rt: HostRuntime) {
 }
 
 #[test]
-#[tactic(auto, unfolding(crate::specs::Layouts::layout_of))]
+#[tactic(auto, unfolding(gl_plain::specs::Layouts::layout_of))]
 fn replies_and_bucket_bytes_are_written(rt: HostRuntime) {
     let error = Plan::Write {
         region: 2,

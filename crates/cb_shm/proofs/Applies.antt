@@ -6,14 +6,14 @@ use Rattle.std.specs.List.{AllByRecursion}
 use Rattle.std.specs.Ordering.{nat_cmp}
 use Rattle.std.specs.FinMap as map
 use Rattle.gl_base.proofs.Found.{get-insert_here, get-insert_other, test}
-use Rattle.gl_plain.specs.Ring.{overwritten}
-use Rattle.gl_plain.specs.declared.script.Patch.{Patch}
-use Rattle.cb_shm.specs.declared.script.Region.{Region}
+use Rattle.gl_plain.specs.Bytes.{overwritten}
+use Rattle.gl_plain.specs.declared.memory.Patch.{Patch}
+use Rattle.gl_plain.specs.declared.memory.Region.{Region}
 use Rattle.cb_shm.specs.declared.script.Script.{Script}
-use Rattle.cb_shm.specs.Memory.{EndsWithin}
+use Rattle.gl_plain.specs.Regions.{EndsWithin, ends_within}
 use Rattle.cb_shm.specs.Blocks.{Blocks, sizes_of, bytes_in, written}
 use Rattle.cb_shm.specs.Patched.{patched_zeros, ArePatched}
-use Rattle.cb_shm.specs.Applied.{ends_within, written_within, applied, added, zero_blocks}
+use Rattle.cb_shm.specs.Applied.{written_within, applied, added, zero_blocks}
 use Rattle.cb_shm.specs.Hostile.{listed_size, script_sizes}
 use Rattle.cb_shm.specs.Whole.{IsPatchInside, AreDistinct}
 use Rattle.cb_shm.proofs.Writes.{size_here, ArePatched-written}

@@ -3,7 +3,7 @@ use Rattle.std.proofs.Common.{◌≡◌, ℕ, ◌+◌, List, [], ◌∷◌, ◌+
 use Prim.Native.Nat.{suc}
 use Rattle.std.proofs.lemmas.List.{length-append}
 use Rattle.std.specs.FinMap as map
-use Rattle.gl_plain.specs.declared.script.Patch.{Patch}
+use Rattle.gl_plain.specs.declared.memory.Patch.{Patch}
 use Rattle.cb_shm.specs.declared.entries.CopyEntry.{CopyEntry}
 use Rattle.cb_shm.specs.declared.script.Script.{Script}
 use Rattle.cb_shm.specs.declared.hostile.HostileMemory.{HostileMemory}

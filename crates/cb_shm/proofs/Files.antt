@@ -6,8 +6,8 @@ use Rattle.std.specs.List.{AllByRecursion}
 use Rattle.std.specs.Ordering.{nat_cmp}
 use Rattle.std.specs.FinMap as map
 use Rattle.gl_base.proofs.Found.{get-insert_here, get-insert_other, get-remove_other, test}
-use Rattle.gl_plain.specs.declared.script.Patch.{Patch}
-use Rattle.cb_shm.specs.declared.script.Timed.{Timed}
+use Rattle.gl_plain.specs.declared.memory.Patch.{Patch}
+use Rattle.gl_plain.specs.declared.memory.Timed.{Timed}
 use Rattle.cb_shm.specs.Hostile.{patch_in, at_number}
 use Rattle.cb_shm.specs.Waiting.{Waiting, bucket, filed, filed_all}
 use Rattle.cb_shm.specs.Whole.{IsPatchInside, IsTimedInside}

@@ -5,9 +5,9 @@ use Rattle.std.proofs.lemmas.Bool.{eq-eqb, ne_eqb}
 use Rattle.std.specs.Option.{option_map, unwrap_or}
 use Rattle.std.specs.FinMap as map
 use Rattle.gl_base.proofs.Found.{get-insert_here, get-insert_other, test}
-use Rattle.gl_plain.specs.Ring.{overwritten}
-use Rattle.gl_plain.specs.declared.script.Patch.{Patch}
-use Rattle.cb_shm.specs.Memory.{IsInside, EndsWithin}
+use Rattle.gl_plain.specs.Bytes.{overwritten}
+use Rattle.gl_plain.specs.declared.memory.Patch.{Patch}
+use Rattle.gl_plain.specs.Regions.{IsInside, EndsWithin}
 use Rattle.cb_shm.specs.Blocks.{Blocks, sizes_of, bytes_in, written}
 use Rattle.cb_shm.specs.Patched.{patched, patched_zeros, bytes_over, ArePatched}
 

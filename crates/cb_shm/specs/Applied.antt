@@ -1,14 +1,10 @@
 -- What is made of regions by patches in order, and regions of zeros.
-use Rattle.std.specs.Prelude.{ℕ, ◌+◌, ◌*◌, List, [], ◌∷◌, length, Option, None, Some, Bool, false, nat_le, if◌then◌else◌, replicate}
+use Rattle.std.specs.Prelude.{ℕ, ◌*◌, List, [], ◌∷◌, length, if◌then◌else◌, replicate}
+use Rattle.gl_plain.specs.Regions.{ends_within}
 use Rattle.std.specs.FinMap as map
-use Rattle.gl_plain.specs.declared.script.Patch.{Patch}
-use Rattle.cb_shm.specs.declared.script.Region.{Region}
+use Rattle.gl_plain.specs.declared.memory.Patch.{Patch}
+use Rattle.gl_plain.specs.declared.memory.Region.{Region}
 use Rattle.cb_shm.specs.Blocks.{Blocks, sizes_of, written}
-
--- a range ends within this size
-abbrev pub ends_within : Option ℕ → ℕ → ℕ → Bool
-ends_within None offset count = false
-ends_within (Some size) offset count = nat_le (offset + count) size
 
 -- the regions with a patch written over them where it is inside
 abbrev pub written_within : Blocks → Patch → Blocks

@@ -1,9 +1,9 @@
 -- The bytes of regions, by number.
-use Rattle.std.specs.Prelude.{ℕ, ◌+◌, List, [], length, take, drop, Option, None, Some, nat_le, if◌then◌else◌}
+use Rattle.std.specs.Prelude.{ℕ, ◌+◌, List, [], length, Option, None, Some, nat_le, if◌then◌else◌}
 use Rattle.std.specs.Option.{option_map, unwrap_or}
 use Rattle.std.specs.Ordering.{nat_cmp}
 use Rattle.std.specs.FinMap as map
-use Rattle.gl_plain.specs.Ring.{overwritten}
+use Rattle.gl_plain.specs.Bytes.{overwritten, part}
 
 -- the bytes of each region that is there
 abbrev pub Blocks : Type 0
@@ -20,10 +20,6 @@ bytes_in blocks region = unwrap_or (map.get blocks region) []
 -- the regions with bytes written over those of one of them
 abbrev pub written : Blocks → ℕ → ℕ → List ℕ → Blocks
 written blocks region offset bytes = map.insert blocks region (overwritten (bytes_in blocks region) offset bytes)
-
--- so many bytes from an offset on
-abbrev pub part : List ℕ → ℕ → ℕ → List ℕ
-part bytes offset count = take count (drop offset bytes)
 
 -- the bytes of a range that ends within these
 abbrev pub part_of : Option (List ℕ) → ℕ → ℕ → Option (List ℕ)

@@ -1,9 +1,9 @@
 -- The bytes that a script sets for each copy.
 use Rattle.std.specs.Prelude.{ℕ, ◌*◌, List, [], ◌∷◌, ◌++◌, Option, None, Some, ◌==◌, if◌then◌else◌}
 use Prim.Native.Nat.{zero, suc}
-use Rattle.gl_plain.specs.declared.script.Patch.{Patch}
-use Rattle.cb_shm.specs.declared.script.Region.{Region}
-use Rattle.cb_shm.specs.declared.script.Timed.{Timed}
+use Rattle.gl_plain.specs.declared.memory.Patch.{Patch}
+use Rattle.gl_plain.specs.declared.memory.Region.{Region}
+use Rattle.gl_plain.specs.declared.memory.Timed.{Timed}
 use Rattle.cb_shm.specs.declared.script.Script.{Script}
 use Rattle.cb_shm.specs.Patched.{bytes_over}
 

@@ -1,5 +1,5 @@
 -- What contracts see of shared memory, and what calls do to it.
-use Rattle.std.specs.Prelude.{ℕ, ◌+◌, ◌≤◌, List, [], ◌∷◌, ◌++◌, length, Option, None, Some}
+use Rattle.std.specs.Prelude.{ℕ, List, [], ◌∷◌, ◌++◌, length, Option}
 use Rattle.cb_shm.specs.declared.entries.CopyEntry.{CopyEntry}
 use Rattle.cb_shm.specs.declared.entries.PutEntry.{PutEntry}
 
@@ -8,15 +8,6 @@ pub record MemoryView : Type 0 where
   pub sizes : ℕ → Option ℕ
   pub copies : List CopyEntry
   pub puts : List PutEntry
-
--- the range ends within this size; where there is none, nothing does
-abbrev pub EndsWithin : Option ℕ → ℕ → ℕ → Type 0
-EndsWithin None offset count = ⊥
-EndsWithin (Some size) offset count = offset + count ≤ size
-
--- a range lies in a region that is there
-abbrev pub IsInside : (ℕ → Option ℕ) → ℕ → ℕ → ℕ → Type 0
-IsInside sizes region offset count = EndsWithin (sizes region) offset count
 
 -- the memory after one more copy, which gave these bytes
 abbrev pub copied : MemoryView → ℕ → ℕ → List ℕ → MemoryView

@@ -2,8 +2,8 @@
 use Rattle.std.specs.Prelude.{◌≡◌, ℕ, List, [], ◌∷◌, Option, ◌==◌, if◌then◌else◌, replicate}
 use Rattle.std.specs.Option.{option_map}
 use Rattle.std.specs.FinMap as map
-use Rattle.gl_plain.specs.declared.script.Patch.{Patch}
-use Rattle.gl_plain.specs.Ring.{overwritten}
+use Rattle.gl_plain.specs.declared.memory.Patch.{Patch}
+use Rattle.gl_plain.specs.Bytes.{overwritten}
 use Rattle.cb_shm.specs.Blocks.{Blocks, sizes_of}
 
 -- the bytes of a region, with those of each patch to it written over them in order

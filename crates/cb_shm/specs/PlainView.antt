@@ -1,6 +1,6 @@
 -- What is seen of a memory that keeps what is put into it.
 use Rattle.std.specs.Prelude.{ℕ, ◌*◌, List, Option, None, Some, ◌==◌, if◌then◌else◌, map}
-use Rattle.gl_plain.specs.declared.script.Patch.{Patch}
+use Rattle.gl_plain.specs.declared.memory.Patch.{Patch}
 use Rattle.cb_shm.specs.declared.entries.CopyEntry.{CopyEntry}
 use Rattle.cb_shm.specs.declared.entries.PutEntry.{PutEntry}
 use Rattle.cb_shm.specs.Patched.{bytes_over}

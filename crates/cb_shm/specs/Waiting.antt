@@ -3,8 +3,8 @@ use Rattle.std.specs.Prelude.{ℕ, List, [], ◌∷◌, ◌++◌}
 use Rattle.std.specs.Option.{unwrap_or}
 use Rattle.std.specs.Ordering.{nat_cmp}
 use Rattle.std.specs.FinMap as map
-use Rattle.gl_plain.specs.declared.script.Patch.{Patch}
-use Rattle.cb_shm.specs.declared.script.Timed.{Timed}
+use Rattle.gl_plain.specs.declared.memory.Patch.{Patch}
+use Rattle.gl_plain.specs.declared.memory.Timed.{Timed}
 use Rattle.cb_shm.specs.Hostile.{patch_in}
 
 -- patches by the number of their copy

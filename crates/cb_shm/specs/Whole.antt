@@ -1,11 +1,11 @@
 -- Which scripts describe a memory.
 use Rattle.std.specs.Prelude.{◌≡◌, ℕ, ◌≤◌, List, [], ◌∷◌, length, None, Option}
 use Rattle.std.specs.List.{AllByRecursion}
-use Rattle.gl_plain.specs.declared.script.Patch.{Patch}
-use Rattle.cb_shm.specs.declared.script.Region.{Region}
-use Rattle.cb_shm.specs.declared.script.Timed.{Timed}
+use Rattle.gl_plain.specs.declared.memory.Patch.{Patch}
+use Rattle.gl_plain.specs.declared.memory.Region.{Region}
+use Rattle.gl_plain.specs.declared.memory.Timed.{Timed}
 use Rattle.cb_shm.specs.declared.script.Script.{Script}
-use Rattle.cb_shm.specs.Memory.{IsInside}
+use Rattle.gl_plain.specs.Regions.{IsInside}
 use Rattle.cb_shm.specs.Hostile.{listed_size, script_sizes, patch_in}
 
 -- a region besides the ring has a number from 1 to 255

@@ -1,6 +1,6 @@
 //! The bytes of one region.
 ghost use Rattle.std.specs.Prelude.{◌≡◌, ◌≤◌, ◌+◌, length, replicate, IfOk};
-ghost use Rattle.gl_plain.specs.Ring.{overwritten};
+ghost use Rattle.gl_plain.specs.Bytes.{overwritten};
 
 use std::alloc::{AllocError, Global};
 use std::marker::Model;

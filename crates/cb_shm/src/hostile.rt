@@ -8,9 +8,9 @@ ghost use Rattle.cb_shm.specs.HostileMemories.{IsMemoryOf};
 use crate::log::{list_copy, list_put};
 use crate::patching::{apply, come_due, file_all};
 use crate::regions::Regions;
-use crate::{CopyList, PutList, Region, Script, Shm, ShmRefusal};
+use crate::{CopyList, PutList, Script, Shm, ShmRefusal};
 use gl_base::NumberMap;
-use gl_plain::PatchList;
+use gl_plain::{PatchList, Region};
 use std::alloc::{AllocError, Global};
 
 /// Memory that a script describes. Each copy gives the bytes that the script sets for its number. The memory keeps its own bytes

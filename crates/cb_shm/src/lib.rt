@@ -14,7 +14,7 @@ mod shm;
 pub use entries::{CopyEntry, CopyList, PutEntry, PutList};
 pub use hostile::HostileMemory;
 pub use plain::PlainMemory;
-pub use script::{Region, RegionList, Script, Timed, TimedList};
+pub use script::Script;
 pub use shm::{Shm, ShmRefusal};
 
 #[cfg(test)]

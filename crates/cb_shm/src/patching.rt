@@ -4,10 +4,9 @@ ghost use Rattle.std.specs.FinMap as map;
 ghost use Rattle.cb_shm.specs.Applied.{applied, written_within};
 ghost use Rattle.cb_shm.specs.Waiting.{bucket, filed, filed_all};
 
-use crate::Timed;
 use crate::regions::Regions;
 use gl_base::NumberMap;
-use gl_plain::{Bytes, Patch, PatchList};
+use gl_plain::{Bytes, Patch, PatchList, Timed};
 use std::alloc::{AllocError, Global};
 
 /// Writes a patch, where its range is inside.

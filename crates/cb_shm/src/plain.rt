@@ -1,7 +1,8 @@
 //! Memory that keeps what is put into it.
 ghost use Rattle.std.specs.Prelude.{◌≡◌, ◌↔◌, ◌≤◌, ◌<◌, ◌^◌, [], length, IfOk, OnOk, OnErr, Err};
-ghost use Rattle.cb_shm.specs.Memory.{IsInside, copied, stored};
-ghost use Rattle.cb_shm.specs.Blocks.{part};
+ghost use Rattle.gl_plain.specs.Bytes.{part};
+ghost use Rattle.gl_plain.specs.Regions.{IsInside};
+ghost use Rattle.cb_shm.specs.Memory.{copied, stored};
 ghost use Rattle.cb_shm.specs.Plain.{new_plain, memory_of, plain_bytes};
 
 use crate::log::{list_copy, list_put};

@@ -2,7 +2,7 @@
 ghost use Rattle.std.specs.Prelude.{◌≡◌, ◌↔◌, length, replicate, IfOk, OnOk, OnErr, IsTrue};
 ghost use Rattle.std.specs.Option.{option_copied};
 ghost use Rattle.std.specs.FinMap as map;
-ghost use Rattle.cb_shm.specs.Memory.{IsInside};
+ghost use Rattle.gl_plain.specs.Regions.{IsInside};
 ghost use Rattle.cb_shm.specs.Blocks.{sizes_of, written, part_of};
 
 use crate::block::Block;

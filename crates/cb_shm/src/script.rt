@@ -1,31 +1,9 @@
-//! A script: what stands in shared memory, and what its client writes there while the service reads.
+//! A script: what stands in shared memory, what its client writes there while the service reads, and what the driver answers.
 
-use gl_plain::{Bytes, PatchList, Seq, Words};
-
-/// A region besides the ring: its number, and its size in bytes.
-#[derive(Clone, Copy, Debug, PartialEq, Eq)]
-pub struct Region {
-    pub id: u32,
-    pub size: u32,
-}
-
-/// Regions in the order of their lines.
-pub type RegionList = Seq<Region>;
-
-/// Bytes that the client writes just before the copy of this number, the first copy of a run being number 0.
-#[derive(Debug, Drop)]
-pub struct Timed {
-    pub copy: u32,
-    pub region: u32,
-    pub offset: u32,
-    pub bytes: Bytes,
-}
-
-/// Overwrites in the order of their lines.
-pub type TimedList = Seq<Timed>;
+use gl_plain::{Answers, PatchList, RegionList, TimedList, Words};
 
 /// A script: how many entries the ring has, the other regions, what stands in them at first (later patches over earlier ones, and
-/// zeros elsewhere), what is written before which copy, and the values of put that the client publishes.
+/// zeros elsewhere), what is written before which copy, the values of put that the client publishes, and the answers of the driver.
 #[derive(Debug, Drop)]
 pub struct Script {
     pub entries: u32,
@@ -33,4 +11,6 @@ pub struct Script {
     pub opening: PatchList,
     pub timed: TimedList,
     pub puts: Words,
+    /// Which questions for room the driver denies, and after how many calls it is lost.
+    pub answers: Answers,
 }

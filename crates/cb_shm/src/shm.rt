@@ -1,6 +1,7 @@
 //! The trait of shared memory.
 ghost use Rattle.std.specs.Prelude.{◌≡◌, ◌↔◌, length, OnOk, OnErr, Err};
-ghost use Rattle.cb_shm.specs.Memory.{MemoryView, IsInside, copied, stored};
+ghost use Rattle.gl_plain.specs.Regions.{IsInside};
+ghost use Rattle.cb_shm.specs.Memory.{MemoryView, copied, stored};
 
 /// Why a copy or a put was not made. Nothing is changed by it.
 #[derive(Clone, Copy, Debug, PartialEq, Eq)]

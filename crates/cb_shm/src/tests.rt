@@ -1,6 +1,6 @@
 //! Each call on memories once, on its happy path.
-use crate::{HostileMemory, PlainMemory, RegionList, Script, Shm, ShmRefusal, TimedList};
-use gl_plain::{PatchList, Words};
+use crate::{HostileMemory, PlainMemory, Script, Shm, ShmRefusal};
+use gl_plain::{Answers, PatchList, RegionList, TimedList, Words};
 use std::test::*;
 
 #[test]
@@ -31,6 +31,7 @@ fn hostile_memory_has_a_ring(rt: HostRuntime) -> Result<(), Fail> {
         opening: PatchList::new(alloc),
         timed: TimedList::new(alloc),
         puts: Words::new(alloc),
+        answers: Answers::new(alloc),
     };
     let Ok(mut memory) = HostileMemory::new(alloc, &script) else {
         return Ok(());

@@ -23,12 +23,15 @@ use Rattle.gl_plain.specs.Command as command
 use Rattle.gl_plain.specs.Wire.{object_step, with_command_reply}
 use Rattle.gl_plain.specs.Step.{bind_buffer_outcome, leaves}
 use Rattle.gl_plain.specs.Part.{object_calls, gen_buffer_call}
+use Rattle.gl_plain.specs.Meaning.{object_meaning}
+use Rattle.gl_plain.proofs.BuffersAgree.{agree_named}
 use Rattle.gl_driver.specs.History.{History, Served}
+use Rattle.gl_driver.proofs.Performing.{Leads}
 use Rattle.buffer_mgr.specs.declared.buffers.Buffers.{Buffers}
 use Rattle.buffer_mgr.specs.Tables.{tables}
-use Rattle.decode_objects.specs.Acts.{beside, Acts}
+use Rattle.decode_objects.specs.Acts.{buffers_in, Acts}
 use Rattle.decode_objects.proofs.Exits.{step_allowed}
-use Rattle.decode_objects.proofs.GoesOn.{goes_on, Leads}
+use Rattle.decode_objects.proofs.GoesOn.{goes_on}
 
 abbrev pub gen_entry : ℕ → DriverEntry
 gen_entry n = record { call = Object GenBuffer; answer = Name n }
@@ -69,18 +72,19 @@ module _ (s : EsState) (target : GlEnum) (id n : ℕ) (unknown : map.get s.buffe
       ∙ sym (step_allowed (state_named s id n) (command.BindBuffer target id) o (sym still_allowed)
       ∙ ap (with_command_reply (command.BindBuffer target id)) (bind_in_use (state_named s id n) target id o (map.get (with_name s.buffers id n).names id) (new_name n) known))
 
-between : (b b1 : Buffers) (e : Errors) (id n : ℕ) → tables b1 ≡ with_name (tables b) id n → (s : EsState) → state_named (beside b e s) id n ≡ beside b1 e s
-between b b1 e id n named s = λ i. record { buffers = sym named i; errors = e }
+between : (b b1 : Buffers) (e : Errors) (id n : ℕ) → tables b1 ≡ with_name (tables b) id n → (s : EsState) → state_named (buffers_in b e s) id n ≡ buffers_in b1 e s
+between b b1 e id n named s = λ i. record s { buffers = sym named i; errors = e }
 
 module _ {D : Type 0} {history : D → History} {grown : D → D → Type 0} (target : GlEnum) (id n : ℕ) (b b1 b2 : Buffers) (e : Errors) (d d1 d2 : D) where
-  pub after_gen : ((a b c : D) → grown a b → grown b c → grown a c) → EsState → (result : Result Reply ExecStop) → tables b1 ≡ with_name (tables b) id n → Served history grown d d1 (gen_entry n ∷ [])
-      → map.get (tables b).names id ≡ None → (id == 0) ≡ false → bind_buffer_refusal (tables b) target id ≡ None → is_bad_bind id ≡ false
-      → Acts history grown (command.BindBuffer target id) b1 e d1 b2 e d2 result → Acts history grown (command.BindBuffer target id) b e d b2 e d2 result
-  after_gen further any result named served unknown positive allowed fair =
-      goes_on (command.BindBuffer target id) (gen_entry n) b b1 b2 e e d d1 d2 further any result served (λ s.
-      subst (λ (t : EsState). Leads (command.BindBuffer target id) (gen_entry n) (beside b e s) t) (between b b1 e id n named s) record {
+  pub after_gen : ((a b c : D) → grown a b → grown b c → grown a c) → (result : Result Reply ExecStop) → tables b1 ≡ with_name (tables b) id n → Served history grown d d1 (gen_entry n ∷ [])
+      → map.get (tables b).names id ≡ None → id ≢ 0 → bind_buffer_refusal (tables b) target id ≡ None → is_bad_bind id ≡ false
+      → Acts history grown (command.BindBuffer target id) (buffers_in b1 e) (buffers_in b2 e) d1 d2 result → Acts history grown (command.BindBuffer target id) (buffers_in b e) (buffers_in b2 e) d d2 result
+  after_gen further result named served unknown positive allowed fair =
+      goes_on (command.BindBuffer target id) (gen_entry n) (buffers_in b e) (buffers_in b1 e) (buffers_in b2 e) d d1 d2 further result served
+      (λ s. subst (λ (t : EsState). Leads (object_meaning (buffers_in b e s) (command.BindBuffer target id)) (object_meaning t (command.BindBuffer target id)) (gen_entry n)) (between b b1 e id n named s) record {
         fair = fair;
         fair_after = fair;
-        step = step_before (beside b e s) target id n unknown positive allowed;
-        calls = calls_before (beside b e s) target id n unknown positive allowed;
+        step = step_before (buffers_in b e s) target id n unknown (apart id positive) allowed;
+        calls = calls_before (buffers_in b e s) target id n unknown (apart id positive) allowed;
       })
+      (λ s a. rw (named, served.state) record { buffers = agree_named (tables b) (history d).state.buffers (history d).state.given.buffers a.buffers id n unknown positive served.legal.0.answered; attribs = a.attribs })

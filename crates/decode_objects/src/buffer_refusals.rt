@@ -1,9 +1,9 @@
 //! The argument rules and the refusals of the commands on buffers (OpenGL ES 2.0.25, section 2.9).
-ghost use Rattle.std.specs.Prelude.{◌≡◌, false, pos};
+ghost use Rattle.std.specs.Prelude.{◌≡◌, not, ◌||◌, pos};
 ghost use Rattle.buffer_mgr.specs.Tables.{tables};
 ghost use Rattle.gl_plain.specs.Tables as plain;
-ghost use Rattle.gl_plain.specs.Malformed.{is_bad_gen, is_bad_bind, is_bad_data};
-ghost use Rattle.gl_plain.specs.Refusal.{gen_refusal, bind_buffer_refusal, buffer_data_refusal, is_bind_over_limit};
+ghost use Rattle.gl_plain.specs.Malformed.{is_bad_gen, is_bad_bind, has_no_data, has_needed_data, has_just_needed_data, data_needed};
+ghost use Rattle.gl_plain.specs.Refusal.{gen_refusal, bind_buffer_refusal, buffer_data_refusal, buffer_sub_data_refusal, is_bind_over_limit};
 ghost use Rattle.std.specs.Prelude.{if◌then◌else◌, None};
 ghost use Rattle.gl_base.specs.Names as limits;
 
@@ -33,11 +33,42 @@ pub fn bind_is_bad(id: u32) -> bool
     !(id == 0 || is_ordinary(id) || is_reserved(id))
 }
 
-/// Whether the words bring data, which no command may yet.
-pub fn data_is_bad(words: DataWords) -> bool
-    ensures { result ≡ is_bad_data words }
+fn has_no_data(words: DataWords) -> bool
+    ensures { result ≡ has_no_data words }
 {
-    !(words.source == 0 && words.count == 0 && words.a == 0 && words.b == 0)
+    words.source == 0 && words.count == 0 && words.a == 0 && words.b == 0
+}
+
+fn has_needed_data(words: DataWords, needed: u32) -> bool
+    ensures { result ≡ has_needed_data words needed }
+{
+    words.source == 1 && words.count == needed
+}
+
+/// How many bytes BufferData and BufferSubData need: none for a size that is refused.
+fn data_needed(size: i32) -> u32
+    ensures { result ≡ data_needed size }
+{
+    if size < 0 || size > DATA_LIMIT {
+        0
+    } else {
+        size as u32
+    }
+}
+
+/// Whether the words of BufferData's data are neither those of no data nor those of as many bytes as it needs.
+pub fn data_is_bad(words: DataWords, size: i32) -> bool
+    ensures { result ≡ not (has_no_data words || has_needed_data words (data_needed size)) }
+{
+    !(has_no_data(words) || has_needed_data(words, data_needed(size)))
+}
+
+/// Whether the words of BufferSubData's data are neither those of as many bytes as it needs nor, where it needs none, those of no data.
+pub fn sub_data_is_bad(words: DataWords, size: i32) -> bool
+    ensures { result ≡ not (has_just_needed_data words (data_needed size)) }
+{
+    let needed = data_needed(size);
+    !((has_no_data(words) && needed == 0) || has_needed_data(words, needed))
 }
 
 /// The refusal of GenBuffers for one id: a reserved one is not counted.
@@ -87,6 +118,30 @@ pub fn data_refused(buffers: &Buffers, target: GlEnum, size: i32, usage: GlEnum)
     }
     if buffers.bound(target).is_none() {
         return Some(GlError::InvalidOperation);
+    }
+    None
+}
+
+/// The refusal of BufferSubData.
+pub fn sub_data_refused(
+    buffers: &Buffers,
+    target: GlEnum,
+    offset: i32,
+    size: i32,
+) -> Option<GlError>
+    ensures { result ≡ buffer_sub_data_refusal (tables buffers.now) target offset size }
+{
+    if !is_buffer_target(target) {
+        return Some(GlError::InvalidEnum);
+    }
+    if offset < 0 || size < 0 {
+        return Some(GlError::InvalidValue);
+    }
+    let Some(buffer) = buffers.bound(target) else {
+        return Some(GlError::InvalidOperation);
+    };
+    if offset as usize + size as usize > buffer.bytes.len() {
+        return Some(GlError::InvalidValue);
     }
     None
 }

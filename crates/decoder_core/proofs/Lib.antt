@@ -1,5 +1,9 @@
--- The lemmas that proofs share.
-pub mod Commands
-pub mod Words
-pub mod SoFar
-pub mod Stops
+mod Commands
+mod Alone
+mod Carrying
+mod ReadSteps
+mod RunsOn
+mod Steps
+mod Lefts
+mod Taking
+mod Joins

@@ -1,65 +1,68 @@
 -- What the execution of a command does to the service and its driver.
-use Rattle.std.specs.Prelude.{◌≡◌, ◌⊎◌, true, false, List, [], length, Some, Result, Ok, Err}
+use Rattle.std.specs.Prelude.{◌≡◌, ◌⊎◌, true, false, List, [], Option, Some, None, Result, Ok, Err}
 use Rattle.gl_plain.specs.declared.driver_calls.DriverEntry.{DriverEntry}
 use Rattle.gl_plain.specs.declared.calls.Reply.{Reply}
 use Rattle.gl_plain.specs.declared.commands.Fetched.{Fetched}
-use Rattle.gl_plain.specs.declared.commands.Layout.{Layout}
-use Rattle.gl_plain.specs.declared.commands.Malformed.{Malformed}
-use Rattle.gl_plain.specs.declared.commands.Malformed.TheVariants.{InvalidArguments}
 use Rattle.gl_plain.specs.declared.stop.ExecStop.{ExecStop}
 use Rattle.gl_plain.specs.declared.stop.ExecStop.TheVariants.{Bad, Lost, NoMemory}
 use Rattle.gl_plain.specs.Tables.{WireState, DriverState}
-use Rattle.gl_plain.specs.Oracle.{Oracle, told}
-use Rattle.gl_plain.specs.Command.{layout_of, command_of}
-use Rattle.gl_plain.specs.Malformed.{has_bad_arguments}
-use Rattle.gl_plain.specs.Wire.{wire_step}
-use Rattle.gl_plain.specs.Part.{IsPart, IsFrontOf, IsProperFrontOf, command_calls}
+use Rattle.gl_plain.specs.Command.{command_of}
+use Rattle.gl_plain.specs.Meaning.{command_meaning}
 use Rattle.gl_plain.specs.Agreement.{Agrees}
-use Rattle.gl_driver.specs.History.{History, Served, Rose}
-use Rattle.gl_driver.specs.declared.stop.DriverStop.TheVariants as driver
+use Rattle.gl_driver.specs.History.{History, Served}
+use Rattle.gl_driver.specs.Performed as performed
 use Rattle.buffer_mgr.specs.Tables.{tables}
 use Rattle.decoder_core.specs.declared.decoder.Decoder.{Decoder}
+use Rattle.decoder_core.specs.declared.outcome.Outcome.{Outcome}
+use Rattle.decoder_core.specs.declared.outcome.Outcome.TheVariants.{Done}
+use Rattle.decoder_core.specs.Stops.{outcome_of}
 
 -- the state that the decoder's tables are
 abbrev pub state_of : Decoder → WireState
-state_of d = record { es = record { buffers = tables d.buffers; errors = d.errors } }
-
--- the number is that of a command, and the words are as many as its layout says, none for a Noop
-pub record IsReadable (f : Fetched) : Type 0 where
-  pub layout : Layout
-  pub known : layout_of f.number ≡ Some layout
-  pub words : length f.words.items ≡ layout.words
+state_of d = record { es = record { buffers = tables d.buffers; attribs = d.attribs.attributes; errors = d.errors }; token = d.token }
 
 -- the command was one step, its entries are its part, and the tables still agree
-pub record Did (f : Fetched) (w : WireState) (d : DriverState) (entries : List DriverEntry) (w2 : WireState) (d2 : DriverState) (reply : Reply) : Type 0 where
-  pub fair : has_bad_arguments w (command_of f) ≡ false
-  pub step : (rest : Oracle) → wire_step w (command_of f) (told entries rest) ≡ record { state = w2; oracle = rest; reply = reply }
-  pub part : (rest : Oracle) → IsPart w d (command_of f) (told entries rest) entries
+pub record Did (f : Fetched) (w : WireState) (entries : List DriverEntry) (w2 : WireState) (d2 : DriverState) (reply : Reply) : Type 0 where
+  pub itself : performed.Did (command_meaning w (command_of f)) entries w2 reply
   pub agrees : Agrees w2.es d2
-
--- the command is malformed: it made no call and changed nothing
-pub record WasBad (f : Fetched) (w : WireState) (entries : List DriverEntry) (w2 : WireState) (kind : Malformed) : Type 0 where
-  pub bad : has_bad_arguments w (command_of f) ≡ true
-  pub kind_is : kind ≡ InvalidArguments
-  pub no_calls : entries ≡ []
-  pub same : w2 ≡ w
-
--- the driver was lost at a call of the command
-pub record WasLost (f : Fetched) (w : WireState) (old new : History) (entries : List DriverEntry) : Type 0 where
-  pub stopped : new.stop ≡ Some driver.Lost
-  pub cause : Rose old.losses new.losses ⊎ (old.stop ≡ Some driver.Lost)
-  pub fair : has_bad_arguments w (command_of f) ≡ false
-  pub front : IsProperFrontOf (command_calls w (command_of f)) entries
 
 -- what a result says
 abbrev pub IsOutcome : Fetched → WireState → History → List DriverEntry → WireState → History → Result Reply ExecStop → Type 0
-IsOutcome f w h entries w2 h2 (Ok reply) = Did f w h.state entries w2 h2.state reply
-IsOutcome f w h entries w2 h2 (Err (Bad kind)) = WasBad f w entries w2 kind
-IsOutcome f w h entries w2 h2 (Err Lost) = WasLost f w h h2 entries
-IsOutcome f w h entries w2 h2 (Err NoMemory) = IsFrontOf (command_calls w (command_of f)) entries
+IsOutcome f w h entries w2 h2 (Ok reply) = Did f w entries w2 h2.state reply
+IsOutcome f w h entries w2 h2 (Err stop) = performed.IsOutcome (command_meaning w (command_of f)) h h2 entries w w2 (Err stop)
 
--- the whole contract of the execution of a command
-pub record Executes {D : Type 0} (history : D → History) (grown : D → D → Type 0) (f : Fetched) (w : WireState) (d : D) (w2 : WireState) (d2 : D) (result : Result Reply ExecStop) : Type 0 where
+-- the execution of a command by a decoder that has not stopped
+pub record Performs {D : Type 0} (history : D → History) (grown : D → D → Type 0) (f : Fetched) (w : WireState) (d : D) (w2 : WireState) (d2 : D) (result : Result Reply ExecStop) : Type 0 where
   pub entries : List DriverEntry
   pub served : Served history grown d d2 entries
   pub outcome : IsOutcome f w (history d) entries w2 (history d2) result
+
+-- the stop that a result is, if it is one
+abbrev pub stop_in : {T : Type 0} → Result T ExecStop → Option ExecStop
+stop_in (Ok x) = None
+stop_in (Err stop) = Some stop
+
+-- the outcome of a result
+abbrev pub outcome_in : Result Reply ExecStop → Outcome
+outcome_in (Ok reply) = Done reply
+outcome_in (Err stop) = outcome_of stop
+
+-- the execution of a command: the decoder goes on, and stops where the command does
+pub record GoesThrough {D : Type 0} (history : D → History) (grown : D → D → Type 0) (f : Fetched) (b : Decoder) (d : D) (b2 : Decoder) (d2 : D) (outcome : Outcome) : Type 0 where
+  pub result : Result Reply ExecStop
+  pub going : b.stop ≡ None
+  pub outcome_is : outcome ≡ outcome_in result
+  pub stop_is : b2.stop ≡ stop_in result
+  pub performs : Performs history grown f (state_of b) d (state_of b2) d2 result
+
+-- the decoder stopped before
+pub record StoppedBefore {D : Type 0} (b : Decoder) (d : D) (b2 : Decoder) (d2 : D) (outcome : Outcome) : Type 0 where
+  pub stop : ExecStop
+  pub stopped : b.stop ≡ Some stop
+  pub outcome_is : outcome ≡ outcome_of stop
+  pub same : b2 ≡ b
+  pub no_calls : d2 ≡ d
+
+-- the whole contract of the execution of a command
+abbrev pub Executes : {D : Type 0} (history : D → History) (grown : D → D → Type 0) (f : Fetched) (b : Decoder) (d : D) (b2 : Decoder) (d2 : D) (outcome : Outcome) → Type 0
+Executes history grown f b d b2 d2 outcome = GoesThrough history grown f b d b2 d2 outcome ⊎ StoppedBefore b d b2 d2 outcome

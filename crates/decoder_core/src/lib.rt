@@ -1,9 +1,13 @@
-//! The service: commands are read from the ring, and each is one step of OpenGL ES with its driver calls.
+//! The service: commands are read from shared memory, and each is one step of OpenGL ES with its driver calls.
 #![tactic(auto)]
 
 mod decoder;
-mod reading;
+mod outcome;
+mod replying;
+mod service;
 mod serving;
 
 pub use decoder::Decoder;
-pub use serving::{ServiceStop, serve};
+pub use outcome::{Outcome, ServiceStop, StepOutcome};
+pub use service::Service;
+pub use serving::serve;

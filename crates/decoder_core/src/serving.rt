@@ -1,84 +1,59 @@
-//! The service over a ring whose bytes do not change.
-ghost use Rattle.std.specs.Prelude.{◌≡◌, ◌<◌, ◌*◌, length};
+//! The service up to put.
+ghost use Rattle.std.specs.Prelude.{◌≡◌, ◌<◌, None};
 ghost use Rattle.gl_plain.specs.Agreement.{Agrees};
-ghost use Rattle.gl_plain.specs.Ring.{seen_from};
-ghost use Rattle.decoder_core.specs.Decoded.{state_of};
-ghost use Rattle.decoder_core.specs.Served.{IsTurn, IsServed};
+ghost use Rattle.decoder_core.specs.ServiceViews.{IsAtRest};
+ghost use Rattle.decoder_core.specs.Served.{IsServed};
+ghost use Rattle.decoder_core.specs.Taken.{Takes};
 
-use crate::decoder::Decoder;
-use crate::reading::{fetch, next};
+use crate::outcome::{ServiceStop, StepOutcome};
+use crate::service::Service;
+use cb_shm::Shm;
 use gl_driver::Driver;
-use gl_plain::{ExecStop, ReplyList, Stop};
-use std::alloc::Global;
+use gl_plain::{ReplyList, Stop};
 
-/// Why the service stopped.
-#[derive(Clone, Copy, Debug, PartialEq, Eq)]
-pub enum ServiceStop {
-    /// A command is malformed.
-    Bad(Stop),
-    /// The driver was lost.
-    Lost,
-    /// There was no memory.
-    NoMemory,
-}
-
-/// Reads and executes the command at get, and answers the next get.
-fn turn<D: Driver>(
-    alloc: Global,
-    decoder: &mut Decoder,
-    ring: &[u8],
-    entries: u32,
-    put: u32,
-    get: u32,
-    replies: &mut ReplyList,
+/// Takes one step, and adds the reply of a command that was executed. The answer is whether there may be more to do.
+fn one<S: Shm, D: Driver>(
+    service: &mut Service,
+    shm: &mut S,
     driver: &mut D,
-) -> Result<u32, ServiceStop>
-    requires whole { length ring.now ≡ 4 * entries }
-    requires inside { get < entries }
-    requires agrees { Agrees (state_of decoder.old).es (D.history driver.old).state }
-    ensures { IsTurn D.history D.grown ring.now entries put get (state_of decoder.old) driver.old replies.old (state_of decoder.new) driver.new replies.new result }
+    replies: &mut ReplyList,
+) -> Result<bool, ServiceStop>
+    requires going { service.old.stop ≡ None }
+    requires agrees { Agrees service.old.wire.es (D.history driver.old).state }
+    ensures takes { Takes D.history D.grown service.old (S.memory shm.old) driver.old replies.old service.new (S.memory shm.new) driver.new replies.new result }
+    ensures grows { S.grown shm.old shm.new }
 {
-    let (command, size) = match fetch(alloc, ring, entries, put, get) {
-        Ok(found) => found,
-        Err(kind) => return Err(ServiceStop::Bad(Stop { kind, place: get })),
-    };
-    let reply = match decoder.execute(&command, driver) {
-        Ok(reply) => reply,
-        Err(ExecStop::Bad(kind)) => return Err(ServiceStop::Bad(Stop { kind, place: get })),
-        Err(ExecStop::Lost) => return Err(ServiceStop::Lost),
-        Err(ExecStop::NoMemory) => return Err(ServiceStop::NoMemory),
-    };
-    match replies.push(reply) {
-        Ok(()) => Ok(next(entries, get, size)),
-        Err(_) => Err(ServiceStop::NoMemory),
+    match service.step(shm, driver) {
+        StepOutcome::Copied => Ok(true),
+        StepOutcome::Executed(reply) => match replies.push(reply) {
+            Ok(()) => Ok(true),
+            Err(_) => Err(ServiceStop::NoMemory),
+        },
+        StepOutcome::Idle => Ok(false),
+        StepOutcome::Bad { kind, place } => Err(ServiceStop::Bad(Stop { kind, place })),
+        StepOutcome::Lost => Err(ServiceStop::Lost),
+        StepOutcome::NoMemory => Err(ServiceStop::NoMemory),
     }
 }
 
-/// Executes the commands from entry 0 up to put, or up to the first that is malformed, and adds their replies. The ring has so many
-/// entries of four bytes; a put that is not below their number is malformed.
-pub fn serve<D: Driver>(
-    alloc: Global,
-    decoder: &mut Decoder,
-    ring: &[u8],
-    entries: u32,
-    put: u32,
-    replies: &mut ReplyList,
+/// Takes steps until the service is idle, or up to the first command that is malformed, and adds the replies of the commands executed.
+pub fn serve<S: Shm, D: Driver>(
+    service: &mut Service,
+    shm: &mut S,
     driver: &mut D,
+    replies: &mut ReplyList,
 ) -> Result<(), ServiceStop>
-    requires whole { length ring.now ≡ 4 * entries }
-    requires some { 0 < entries }
-    requires agrees { Agrees (state_of decoder.old).es (D.history driver.old).state }
-    ensures { IsServed D.history D.grown (seen_from ring.now entries put entries 0) (state_of decoder.old) driver.old replies.old (state_of decoder.new) driver.new replies.new result }
+    requires some { 0 < service.old.fetch.entries }
+    requires at_rest { IsAtRest service.old }
+    requires agrees { Agrees service.old.wire.es (D.history driver.old).state }
+    ensures served { IsServed D.history D.grown service.old (S.memory shm.old) driver.old replies.old service.new (S.memory shm.new) driver.new replies.new result }
+    ensures grows { S.grown shm.old shm.new }
 {
-    let mut get = 0;
-    'turns: for _ in 0..entries {
-        if get == put {
-            return Ok(());
-        }
-        match turn(alloc, decoder, ring, entries, put, get, replies, driver) {
-            Ok(next) => get = next,
+    'steps: loop {
+        match one(service, shm, driver, replies) {
+            Ok(true) => (),
+            Ok(false) => return Ok(()),
             Err(stop) => return Err(stop),
         }
     }
-    Ok(())
 }

@@ -1,3 +1,4 @@
 -- The definitions that contracts cite.
 pub mod History
 pub mod Stops
+pub mod Performed

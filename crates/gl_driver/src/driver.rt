@@ -2,7 +2,7 @@
 ghost use Rattle.std.specs.Prelude.{◌≡◌, IfOk};
 ghost use Rattle.gl_plain.specs.Allowed.{IsAllowed};
 ghost use Rattle.gl_plain.specs.declared.driver_calls.DriverCall.TheVariants.{Object};
-ghost use Rattle.gl_plain.specs.declared.driver_calls.ObjectDriver.TheVariants.{GenBuffer, BindBuffer, BufferData};
+ghost use Rattle.gl_plain.specs.declared.driver_calls.ObjectDriver.TheVariants.{GenBuffer, BindBuffer, BufferData, BufferSubData, DeleteBuffer, VertexAttrib4, VertexAttribPointer, SetArray};
 ghost use Rattle.gl_plain.specs.declared.driver_calls.Answer.TheVariants.{Name};
 ghost use Rattle.gl_driver.specs.History.{History, Served, Caused, Rose, entered, done, stored_answer};
 
@@ -41,6 +41,49 @@ pub trait Driver {
         ensures served { Served history grown self.old self.new (entered result (Object (BufferData target bytes.now usage)) stored_answer) }
         ensures cause { Caused (history self.old) (history self.new) result }
         ensures oom { IfOk result (λ s. s ≡ Stored.Oom → Rose (history self.old).ooms (history self.new).ooms) };
+
+    /// Gives the bound buffer these bytes in place of those from an offset on.
+    fn buffer_sub_data(
+        &mut self,
+        target: GlEnum,
+        offset: i32,
+        bytes: &[u8],
+    ) -> Result<(), DriverStop>
+        requires { IsAllowed (history self.old).state (Object (BufferSubData target offset bytes.now)) }
+        ensures served { Served history grown self.old self.new (entered result (Object (BufferSubData target offset bytes.now)) done) }
+        ensures cause { Caused (history self.old) (history self.new) result };
+
+    /// Deletes a buffer with its name. Nothing binds it from then on, and no array lies in it.
+    fn delete_buffer(&mut self, name: u64) -> Result<(), DriverStop>
+        requires { IsAllowed (history self.old).state (Object (DeleteBuffer name)) }
+        ensures served { Served history grown self.old self.new (entered result (Object (DeleteBuffer name)) done) }
+        ensures cause { Caused (history self.old) (history self.new) result };
+
+    /// Sets the value that a vertex attribute has where its array is not enabled, as four float patterns.
+    fn vertex_attrib_4(&mut self, index: u32, values: [u32; 4]) -> Result<(), DriverStop>
+        requires { IsAllowed (history self.old).state (Object (VertexAttrib4 index values)) }
+        ensures served { Served history grown self.old self.new (entered result (Object (VertexAttrib4 index values)) done) }
+        ensures cause { Caused (history self.old) (history self.new) result };
+
+    /// Sets the array of a vertex attribute, which lies in the buffer that ARRAY_BUFFER binds.
+    fn vertex_attrib_pointer(
+        &mut self,
+        index: u32,
+        size: i32,
+        kind: GlEnum,
+        normalized: bool,
+        stride: i32,
+        offset: u32,
+    ) -> Result<(), DriverStop>
+        requires { IsAllowed (history self.old).state (Object (VertexAttribPointer index size kind normalized stride offset)) }
+        ensures served { Served history grown self.old self.new (entered result (Object (VertexAttribPointer index size kind normalized stride offset)) done) }
+        ensures cause { Caused (history self.old) (history self.new) result };
+
+    /// Enables the array of a vertex attribute, or disables it.
+    fn set_array(&mut self, index: u32, on: bool) -> Result<(), DriverStop>
+        requires { IsAllowed (history self.old).state (Object (SetArray index on)) }
+        ensures served { Served history grown self.old self.new (entered result (Object (SetArray index on)) done) }
+        ensures cause { Caused (history self.old) (history self.new) result };
 
     ghost grown_itself: { (a : Self) → grown a a };
 

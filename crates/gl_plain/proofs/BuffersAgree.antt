@@ -1,15 +1,16 @@
 -- The buffers of a service and of its driver stay alike.
-use Rattle.std.proofs.Common.{◌≡◌, ◌≢◌, ℕ, true, false, refl, ◌∙◌, ap, None, Some, if◌then◌else◌, ◌==◌}
+use Rattle.std.proofs.Common.{◌≡◌, ◌≢◌, ℕ, true, false, refl, sym, ◌∙◌, ap, subst, List, Option, None, Some, if◌then◌else◌, ◌==◌}
 use Rattle.std.specs.FinMap as map
 use Rattle.std.specs.FinSet as set
 use Rattle.gl_plain.specs.declared.objects.Name.{Name}
+use Rattle.gl_plain.specs.declared.objects.Buffer.{Buffer}
 use Rattle.gl_base.specs.declared.gl_enum.GlEnum.{GlEnum}
 use Rattle.std.specs.Ordering.{nat_cmp}
 use Rattle.gl_plain.specs.Tables.{opening, opening_driver, BufferTables, binding, bound, ARRAY_BUFFER}
 use Rattle.gl_plain.specs.Allowed.{IsFresh}
-use Rattle.gl_plain.specs.Effect.{with_name, with_bind, with_object, with_binding, made_object, empty_buffer}
+use Rattle.gl_plain.specs.Effect.{with_name, with_bind, with_object, with_binding, made_object, empty_buffer, stored, changed, changed_by, deleted, without_buffer, without}
 use Rattle.gl_plain.specs.Agreement.{BuffersAgree, Agrees}
-use Rattle.gl_plain.proofs.NamesAgree.{agree-named, agree-made}
+use Rattle.gl_plain.proofs.NamesAgree.{agree-named, agree-made, agree-removed}
 
 module _ (w d : BufferTables) (given : set.FinSet nat_cmp) (a : BuffersAgree w d given) where
   pub agree_named : (id n : ℕ) → map.get w.names id ≡ None → id ≢ 0 → IsFresh given n → BuffersAgree (with_name w id n) (with_name d n n) (set.insert given n)
@@ -43,6 +44,30 @@ module _ (w d : BufferTables) (given : set.FinSet nat_cmp) (a : BuffersAgree w d
   pub same_bound : (target : GlEnum) → bound w target ≡ bound d target
   same_bound target = ap (λ m. map.get m (binding w target)) a.objects ∙ ap (map.get d.objects) (same_binding target)
 
+  pub agree_stored : (target : GlEnum) (buffer : Buffer) → BuffersAgree (stored w target buffer) (stored d target buffer) given
+  agree_stored target buffer = record {
+    names = a.names;
+    objects = ap (λ m. map.insert m (binding w target) buffer) a.objects ∙ ap (λ n. map.insert d.objects n buffer) (same_binding target);
+    array = a.array;
+    element = a.element;
+  }
+
+  agree_changed_by : (target : GlEnum) (offset : ℕ) (bytes : List ℕ) (there : Option Buffer) → BuffersAgree (changed_by w target offset bytes there) (changed_by d target offset bytes there) given
+  agree_changed_by target offset bytes None = a
+  agree_changed_by target offset bytes (Some buffer) = agree_stored target _
+
+  pub agree_changed : (target : GlEnum) (offset : ℕ) (bytes : List ℕ) → BuffersAgree (changed w target offset bytes) (changed d target offset bytes) given
+  agree_changed target offset bytes =
+      subst (λ there. BuffersAgree (changed_by w target offset bytes there) (changed d target offset bytes) given) (sym (same_bound target)) (agree_changed_by target offset bytes (bound d target))
+
+  pub agree_deleted : (id : ℕ) (x : Name) → map.get w.names id ≡ Some x → BuffersAgree (without_buffer w id x.number) (deleted d x.number) given
+  agree_deleted id x there = rw (a.names.live id x there) record {
+    names = agree-removed w.names d.names given a.names id x there;
+    objects = ap (λ m. map.remove m x.number) a.objects;
+    array = ap (without x.number) a.array;
+    element = ap (without x.number) a.element;
+  }
+
 absent : (key : ℕ) (x : Name) → map.get (map.empty {R = nat_cmp}) key ≡ Some x → ⊥
 absent key x e = let none : map.get (map.empty {X = Name} {R = nat_cmp}) key ≡ None = map.get-empty nat_cmp key in cc
 
@@ -63,4 +88,5 @@ opening_agrees = record {
     array = refl;
     element = refl;
   };
+  attribs = refl;
 }

@@ -1,5 +1,5 @@
 -- Worked rows, as the definitions answer them.
-use Rattle.std.proofs.Common.{◌≡◌, ℕ, List, [], ◌∷◌, None, Some, refl, true, false}
+use Rattle.std.proofs.Common.{◌≡◌, ℕ, [], ◌∷◌, ◌==◌, if◌then◌else◌, Option, None, Some, refl, true, false}
 use Rattle.std.specs.Prelude.{pos, negsuc}
 use Rattle.std.specs.Ordering.{nat_cmp}
 use Rattle.std.specs.FinMap as map
@@ -9,55 +9,47 @@ use Rattle.gl_base.specs.Names.{is_ordinary}
 use Rattle.gl_base.specs.declared.gl_enum.GlEnum.{GlEnum}
 use Rattle.gl_plain.specs.declared.objects.Name.{Name}
 use Rattle.gl_plain.specs.declared.objects.Buffer.{Buffer}
-use Rattle.gl_plain.specs.declared.commands.Fetched.{Fetched}
-use Rattle.gl_plain.specs.declared.commands.Malformed.TheVariants.{InvalidSize, OutOfBounds, UnknownCommand}
+use Rattle.gl_plain.specs.declared.commands.Malformed.TheVariants.{InvalidSize, OutOfBounds, UnknownCommand, InvalidArguments}
 use Rattle.gl_plain.specs.declared.errors.GlError.TheVariants.{InvalidEnum, InvalidValue, InvalidOperation, OutOfMemory}
-use Rattle.gl_plain.specs.declared.script.Script.{Script}
-use Rattle.gl_plain.specs.Command.{layout_of, command_of, Object, BufferData}
-use Rattle.gl_plain.specs.Effect.{new_name, with_name, with_bind}
-use Rattle.gl_plain.specs.Refusal.{buffer_data_refusal, gen_refusal}
-use Rattle.gl_plain.specs.Malformed.{is_bad_bind}
-use Rattle.gl_plain.specs.Ring.{seen, first_fault, command_at}
-use Rattle.gl_plain.specs.Tables.{no_buffers, bound}
+use Rattle.gl_plain.specs.Layouts.{layout_of}
+use Rattle.gl_plain.specs.Plans.{plan_of}
+use Rattle.gl_plain.specs.Command as command
+use Rattle.gl_plain.specs.Command.{command_in, Object, BufferData, SetToken}
+use Rattle.gl_plain.specs.Effect.{new_name, with_name, with_bind, deleted, without_buffer}
+use Rattle.gl_plain.specs.AttribEffect.{attribute, with_enabled, with_constant, with_array, array_of, without_object}
+use Rattle.gl_plain.specs.Refusal.{buffer_data_refusal, gen_refusal, buffer_sub_data_refusal, range_refusal, attrib_refusal, vertex_attrib_pointer_refusal}
+use Rattle.gl_plain.specs.Malformed.{is_bad_bind, has_no_data, has_needed_data, has_just_needed_data, data_needed, has_bad_arguments}
+use Rattle.gl_plain.specs.Errors.{no_errors, noted, least, cleared, code_given}
+use Rattle.gl_plain.specs.Replied.{reply_bytes}
+use Rattle.gl_plain.specs.declared.attributes.VertexAttributes.{VertexAttributes}
+use Rattle.gl_plain.specs.declared.commands.DataWords.{DataWords}
+use Rattle.gl_plain.specs.declared.errors.Errors.{Errors}
+use Rattle.gl_plain.specs.declared.calls.Reply.TheVariants.{Error}
+use Rattle.gl_plain.specs.Ring.{first_fault, range_fault}
+use Rattle.gl_plain.specs.Tables.{BufferTables, no_buffers, no_arrays, bound, opening_wire}
 
-abbrev script : ℕ → List ℕ → ℕ → Script
-script entries bytes put = record { entries = entries; opening = record { region = 0; offset = 0; bytes = bytes } ∷ []; puts = put ∷ [] }
+-- the tests of a header, in their order: put at the number of entries, a size of 0, more than is ready, also at the ring's end, a number
+-- that no command has, a size that is not the layout's
+headers : (first_fault 4 4 0 0 ≡ Some OutOfBounds) × (first_fault 4 1 0 0 ≡ Some InvalidSize) × (first_fault 4 1 0 0x00200002 ≡ Some OutOfBounds)
+    × (first_fault 4 0 3 0x00200002 ≡ Some OutOfBounds) × (first_fault 8 4 3 0xFFE00001 ≡ Some UnknownCommand) × (first_fault 8 4 0 0x00200003 ≡ Some InvalidArguments)
+    × (first_fault 8 4 0 0x20200003 ≡ Some InvalidArguments) × (first_fault 8 4 0 0x20200002 ≡ None) × (first_fault 8 0 6 0x00200002 ≡ None) × (first_fault 8 4 0 4 ≡ None)
+unfolding first_fault layout_of
+headers = (refl, refl, refl, refl, refl, refl, refl, refl, refl, refl)
 
-abbrev command : ℕ → List ℕ → ℕ → Fetched
-command number words place = record { number = number; words = record { items = words }; payload = []; place = place }
+abbrev one_region : ℕ → Option ℕ
+one_region region = if region == 1 then Some 8 else None
 
--- a word 0 is a command of size 0
-word_zero : seen (script 4 [] 1) ≡ record { commands = []; stop = Some (record { kind = InvalidSize; place = 0 }) }
-unfolding first_fault layout_of command_at
-word_zero = refl
-
--- a Noop of two entries where one is ready; with put at the number of entries, which is never below it
-not_ready : seen (script 4 (2 ∷ 0 ∷ 0x20 ∷ 0 ∷ []) 1) ≡ record { commands = []; stop = Some (record { kind = OutOfBounds; place = 0 }) }
-unfolding first_fault layout_of command_at
-not_ready = refl
-
-put_too_high : seen (script 4 (1 ∷ 0 ∷ 0 ∷ 0 ∷ []) 4) ≡ record { commands = []; stop = Some (record { kind = OutOfBounds; place = 0 }) }
-unfolding first_fault layout_of command_at
-put_too_high = refl
-
--- three Noops, and then a number that no command has
-unknown : seen (script 8 (1 ∷ 0 ∷ 0 ∷ 0 ∷ 1 ∷ 0 ∷ 0 ∷ 0 ∷ 1 ∷ 0 ∷ 0 ∷ 0 ∷ 1 ∷ 0 ∷ 0xE0 ∷ 0xFF ∷ []) 4)
-    ≡ record { commands = command 0 [] 0 ∷ command 0 [] 1 ∷ command 0 [] 2 ∷ []; stop = Some (record { kind = UnknownCommand; place = 3 }) }
-unfolding first_fault layout_of command_at
-unknown = refl
-
--- GenBuffers 1, and BindBuffer ARRAY_BUFFER 1
-two_commands : seen (script 8 (2 ∷ 0 ∷ 0x20 ∷ 0x20 ∷ 1 ∷ 0 ∷ 0 ∷ 0 ∷ 3 ∷ 0 ∷ 0x40 ∷ 0x20 ∷ 0x92 ∷ 0x88 ∷ 0 ∷ 0 ∷ 1 ∷ 0 ∷ 0 ∷ 0 ∷ []) 5)
-    ≡ record { commands = command 257 (1 ∷ []) 0 ∷ command 258 (0x8892 ∷ 1 ∷ []) 2 ∷ []; stop = None }
-unfolding first_fault layout_of command_at
-two_commands = refl
+-- the words of GetError name a range of 8 bytes
+ranges : (range_fault one_region (plan_of 327 (1 ∷ 0 ∷ [])) ≡ None) × (range_fault one_region (plan_of 327 (1 ∷ 1 ∷ [])) ≡ Some OutOfBounds) × (range_fault one_region (plan_of 327 (2 ∷ 0 ∷ [])) ≡ Some OutOfBounds)
+unfolding layout_of
+ranges = (refl, refl, refl)
 
 abbrev enum : ℕ → GlEnum
 enum n = record { 0 = n }
 
 -- what the words mean: a size is signed
-spelled_words : command_of (command 259 (0x8892 ∷ 0xFFFFFFFF ∷ 0x88E4 ∷ 0 ∷ 0 ∷ 0 ∷ 0 ∷ []) 0)
-    ≡ Object (BufferData (enum 0x8892) (negsuc 0) (enum 0x88E4) (record { source = 0; count = 0; a = 0; b = 0 }))
+spelled_words : command_in 259 (0x8892 ∷ 0xFFFFFFFF ∷ 0x88E4 ∷ 0 ∷ 0 ∷ 0 ∷ 0 ∷ []) []
+    ≡ Object (BufferData (enum 0x8892) (negsuc 0) (enum 0x88E4) (record { source = 0; count = 0; a = 0; b = 0 }) [])
 spelled_words = refl
 
 -- ids on both sides of the limits
@@ -79,3 +71,84 @@ gen_errors = (rw (len_retain-empty Name is_ordinary) refl, rw (len_retain-empty 
 -- a name that is bound for the first time is an empty buffer with STATIC_DRAW
 first_bind : bound (with_bind (with_name no_buffers 7 1) (enum 0x8893) 7) (enum 0x8893) ≡ Some (record { bytes = []; usage = enum 0x88E4 })
 first_bind = rw (get-insert_here (map.empty {X = Name} {R = nat_cmp}) 7 (new_name 1)) (get-insert_here (map.empty {X = Buffer} {R = nat_cmp}) 1 _)
+
+abbrev data_words : ℕ → ℕ → ℕ → ℕ → DataWords
+data_words source count a b = record { source = source; count = count; a = a; b = b }
+
+-- no data, and data in shared memory of as many bytes as are needed: none where the size is negative or above the limit
+data_rules : (has_no_data (data_words 0 0 0 0) ≡ true) × (has_no_data (data_words 0 0 0 1) ≡ false) × (has_needed_data (data_words 1 4 9 9) (data_needed (pos 4)) ≡ true)
+    × (has_needed_data (data_words 1 3 0 0) (data_needed (pos 4)) ≡ false) × (has_needed_data (data_words 2 4 0 0) (data_needed (pos 4)) ≡ false)
+    × (data_needed (negsuc 3) ≡ 0) × (data_needed (pos 67108864) ≡ 67108864) × (data_needed (pos 67108865) ≡ 0)
+data_rules = (refl, refl, refl, refl, refl, refl, refl, refl)
+
+-- a token has 31 bits
+tokens : (has_bad_arguments opening_wire (SetToken 0x7FFFFFFF) ≡ false) × (has_bad_arguments opening_wire (SetToken 0x80000000) ≡ true)
+tokens = (refl, refl)
+
+-- GetError gives the least code first, and then the next one
+abbrev two_codes : Errors
+two_codes = noted (noted no_errors OutOfMemory) InvalidValue
+
+codes_in_order : (code_given (least two_codes) ≡ 0x0501) × (code_given (least (cleared two_codes (least two_codes))) ≡ 0x0505) × (code_given (least no_errors) ≡ 0)
+codes_in_order = (refl, refl, refl)
+
+-- a reply of one word is eight bytes
+reply_in_bytes : reply_bytes (Error 0x0500) ≡ 1 ∷ 0 ∷ 0 ∷ 0 ∷ 0 ∷ 5 ∷ 0 ∷ 0 ∷ []
+reply_in_bytes = refl
+
+-- what the words mean: offset and size are signed, and a boolean is true where its word is not 0
+sub_data_words : command_in 260 (0x8893 ∷ 2 ∷ 0xFFFFFFFD ∷ 1 ∷ 3 ∷ 1 ∷ 0 ∷ []) (7 ∷ [])
+    ≡ Object (command.BufferSubData (enum 0x8893) (pos 2) (negsuc 2) (record { source = 1; count = 3; a = 1; b = 0 }) (7 ∷ []))
+sub_data_words = refl
+
+pointer_words : command_in 294 (15 ∷ 3 ∷ 0x1406 ∷ 7 ∷ 12 ∷ 4 ∷ []) [] ≡ Object (command.VertexAttribPointer 15 (pos 3) (enum 0x1406) true (pos 12) 4)
+pointer_words = refl
+
+-- data of no bytes may come from no source, and from shared memory; more may not
+sub_data_rules : (has_just_needed_data (data_words 0 0 0 0) 0 ≡ true) × (has_just_needed_data (data_words 0 0 0 0) 2 ≡ false) × (has_just_needed_data (data_words 0 0 0 1) 0 ≡ false)
+    × (has_just_needed_data (data_words 1 0 9 9) 0 ≡ true) × (has_just_needed_data (data_words 1 2 9 9) 2 ≡ true) × (has_just_needed_data (data_words 1 3 9 9) 2 ≡ false)
+sub_data_rules = (refl, refl, refl, refl, refl, refl)
+
+-- the errors of BufferSubData, in their order
+sub_data_errors : (buffer_sub_data_refusal no_buffers (enum 0x8894) (negsuc 0) (pos 1) ≡ Some InvalidEnum) × (buffer_sub_data_refusal no_buffers (enum 0x8892) (negsuc 0) (pos 1) ≡ Some InvalidValue)
+    × (buffer_sub_data_refusal no_buffers (enum 0x8892) (pos 0) (negsuc 0) ≡ Some InvalidValue) × (buffer_sub_data_refusal no_buffers (enum 0x8892) (pos 100) (pos 1) ≡ Some InvalidOperation)
+sub_data_errors = (refl, refl, refl, rw (map.get-empty nat_cmp 0) refl)
+
+abbrev four_bytes : Option Buffer
+four_bytes = Some (record { bytes = 1 ∷ 2 ∷ 3 ∷ 4 ∷ []; usage = enum 0x88E4 })
+
+-- a range is outside where it ends behind the buffer's last byte, and sums do not wrap
+ranges_of_buffers : (range_refusal four_bytes 2 2 ≡ None) × (range_refusal four_bytes 4 0 ≡ None) × (range_refusal four_bytes 2 3 ≡ Some InvalidValue) × (range_refusal four_bytes 0x7FFFFFFF 0x7FFFFFFF ≡ Some InvalidValue)
+ranges_of_buffers = (refl, refl, refl, refl)
+
+-- there are sixteen vertex attributes
+attrib_errors : (attrib_refusal 15 ≡ None) × (attrib_refusal 16 ≡ Some InvalidValue)
+attrib_errors = (refl, refl)
+
+-- the errors of VertexAttribPointer, in their order
+pointer_errors : (vertex_attrib_pointer_refusal 16 (pos 5) (enum 0x1404) (negsuc 0) ≡ Some InvalidEnum) × (vertex_attrib_pointer_refusal 16 (pos 4) (enum 0x1406) (pos 0) ≡ Some InvalidValue)
+    × (vertex_attrib_pointer_refusal 0 (pos 0) (enum 0x1406) (pos 0) ≡ Some InvalidValue) × (vertex_attrib_pointer_refusal 0 (pos 5) (enum 0x1406) (pos 0) ≡ Some InvalidValue)
+    × (vertex_attrib_pointer_refusal 0 (negsuc 2) (enum 0x1406) (pos 0) ≡ Some InvalidValue) × (vertex_attrib_pointer_refusal 0 (pos 1) (enum 0x1406) (negsuc 0) ≡ Some InvalidValue)
+    × (vertex_attrib_pointer_refusal 15 (pos 4) (enum 0x140C) (pos 255) ≡ None) × (vertex_attrib_pointer_refusal 0 (pos 1) (enum 0x1400) (pos 0) ≡ None)
+pointer_errors = (refl, refl, refl, refl, refl, refl, refl, refl)
+
+-- an array that is pointed at lies in the buffer that is bound then, and in none once that is deleted; it keeps the rest
+abbrev pointed : VertexAttributes
+pointed = with_array no_arrays 3 (array_of (record no_buffers { array = 1 }) (pos 2) (enum 0x1402) true (pos 8) 4)
+
+pointed_at : ((attribute pointed 3).array.object ≡ Some 1) × ((attribute pointed 3).array.offset ≡ 4) × ((attribute (without_object pointed 1) 3).array.object ≡ None) × ((attribute (without_object pointed 1) 3).array.offset ≡ 4)
+    × ((attribute (without_object pointed 2) 3).array.object ≡ Some 1)
+pointed_at = (refl, refl, refl, refl, refl)
+
+-- a change of one attribute leaves the others
+others_kept : ((attribute (with_enabled no_arrays 3 true) 3).enabled ≡ true) × ((attribute (with_enabled no_arrays 3 true) 4).enabled ≡ false)
+    × ((attribute (with_constant no_arrays 15 (1 ∷ 2 ∷ 3 ∷ 4 ∷ [])) 15).constant ≡ 1 ∷ 2 ∷ 3 ∷ 4 ∷ []) × ((attribute (with_constant no_arrays 15 (1 ∷ 2 ∷ 3 ∷ 4 ∷ [])) 0).constant ≡ 0 ∷ 0 ∷ 0 ∷ 0x3F800000 ∷ [])
+others_kept = (refl, refl, refl, refl)
+
+-- two buffers are bound
+abbrev two_bound : BufferTables
+two_bound = record no_buffers { array = 1; element = 2 }
+
+-- a deleted buffer is bound no more; to delete 0, or a name that is not in use, changes nothing
+bound_no_more : ((without_buffer two_bound 7 1).array ≡ 0) × ((without_buffer two_bound 7 1).element ≡ 2) × (deleted no_buffers 0 ≡ no_buffers) × (deleted no_buffers 7 ≡ no_buffers)
+bound_no_more = (refl, refl, rw (map.get-empty {X = Name} nat_cmp 0) refl, rw (map.get-empty {X = Name} nat_cmp 7) refl)

@@ -26,3 +26,4 @@ pub record BuffersAgree (w d : BufferTables) (given : set.FinSet nat_cmp) : Type
 -- the tables of the service and of the driver agree, part by part
 pub record Agrees (s : EsState) (d : DriverState) : Type 0 where
   pub buffers : BuffersAgree s.buffers d.buffers d.given.buffers
+  pub attribs : s.attribs ≡ d.attribs

@@ -1,10 +1,11 @@
--- What the calls change, each effect on its part of the tables.
-use Rattle.std.specs.Prelude.{ℕ, true, false, ◌==◌, if◌then◌else◌, [], Option, None, Some}
+-- What the calls on buffers change, each effect on its part of the tables.
+use Rattle.std.specs.Prelude.{ℕ, true, false, ◌==◌, if◌then◌else◌, List, [], Option, None, Some}
 use Rattle.std.specs.FinMap as map
 use Rattle.gl_base.specs.declared.gl_enum.GlEnum.{GlEnum}
 use Rattle.gl_plain.specs.declared.objects.Name.{Name}
 use Rattle.gl_plain.specs.declared.objects.Buffer.{Buffer}
-use Rattle.gl_plain.specs.Tables.{Names, BufferTables, binding, ARRAY_BUFFER}
+use Rattle.gl_plain.specs.Bytes.{overwritten}
+use Rattle.gl_plain.specs.Tables.{Names, BufferTables, binding, bound, ARRAY_BUFFER}
 
 -- a name that was given a number, and whose object is not there yet
 abbrev pub new_name : ℕ → Name
@@ -47,3 +48,34 @@ with_bind t target id = bound_by t target id (map.get t.names id)
 -- the buffer that the target binds is replaced
 abbrev pub stored : BufferTables → GlEnum → Buffer → BufferTables
 stored t target buffer = record t { objects = map.insert t.objects (binding t target) buffer }
+
+-- the bytes of what a target binds, if anything, with others from an offset on
+abbrev pub changed_by : BufferTables → GlEnum → ℕ → List ℕ → Option Buffer → BufferTables
+changed_by t target offset bytes None = t
+changed_by t target offset bytes (Some buffer) = stored t target (record buffer { bytes = overwritten buffer.bytes offset bytes })
+
+-- the buffer that the target binds has these bytes from an offset on
+abbrev pub changed : BufferTables → GlEnum → ℕ → List ℕ → BufferTables
+changed t target offset bytes = changed_by t target offset bytes (bound t target)
+
+-- nothing is bound where this number was
+abbrev pub without : ℕ → ℕ → ℕ
+without number bound = if bound == number then 0 else bound
+
+-- the name of a buffer and its object are there no more, and nothing binds it
+abbrev pub without_buffer : BufferTables → ℕ → ℕ → BufferTables
+without_buffer t id number = record {
+  names = map.remove t.names id;
+  objects = map.remove t.objects number;
+  array = without number t.array;
+  element = without number t.element;
+}
+
+-- what is left by what the table has of a name, if anything
+abbrev pub deleted_by : BufferTables → ℕ → Option Name → BufferTables
+deleted_by t id None = t
+deleted_by t id (Some x) = without_buffer t id x.number
+
+-- a name in use goes with its buffer; 0 is never in use
+abbrev pub deleted : BufferTables → ℕ → BufferTables
+deleted t id = deleted_by t id (map.get t.names id)

@@ -1,15 +1,22 @@
 -- The definitions that contracts cite.
+pub mod Bytes
+pub mod Regions
 pub mod Errors
 pub mod Tables
 pub mod Effect
 pub mod Refusal
+pub mod AttribEffect
 pub mod Oracle
 pub mod Step
+pub mod Layouts
+pub mod Plans
 pub mod Command
 pub mod Malformed
 pub mod Ring
 pub mod Part
 pub mod Wire
+pub mod Meaning
+pub mod Replied
 pub mod Allowed
 pub mod DriverEffect
 pub mod Journal

@@ -11,21 +11,20 @@ use Rattle.gl_plain.specs.declared.commands.Stop.{Stop}
 use Rattle.gl_plain.specs.Tables.{EsState, WireState}
 use Rattle.gl_plain.specs.Refusal.{object_refusal}
 use Rattle.gl_plain.specs.Oracle.{Oracle}
-use Rattle.gl_plain.specs.Step.{Outcome, outcome_by}
-use Rattle.gl_plain.specs.Command.{Command, Noop, Object, ObjectCommand, GenBuffer, BindBuffer, BufferData, command_of, spelled, names_given}
+use Rattle.gl_plain.specs.Errors.{least}
+use Rattle.gl_plain.specs.Step.{Outcome, Choice, choosing, outcome_by, es_step}
+use Rattle.gl_plain.specs.Command.{Command, Noop, SetToken, Object, Query, ObjectCommand, GenBuffer, QueryCommand, GetError, command_of, spelled, query_spelled, names_given}
 use Rattle.gl_plain.specs.Malformed.{has_bad_arguments}
 
 -- the code that a command is refused with: that of its call, but a reserved name is not counted, so the Gen of one never is refused
 abbrev pub command_refusal : EsState → ObjectCommand → Option GlError
 command_refusal s (GenBuffer id) = if is_reserved id then None else object_refusal s (spelled (GenBuffer id))
-command_refusal s (BindBuffer target id) = object_refusal s (spelled (BindBuffer target id))
-command_refusal s (BufferData target size usage words) = object_refusal s (spelled (BufferData target size usage words))
+command_refusal s c = object_refusal s (spelled c)
 
 -- a Gen gives the name that its command brought, and says no more
 abbrev pub command_reply : ObjectCommand → Reply → Reply
 command_reply (GenBuffer id) r = reply.None
-command_reply (BindBuffer target id) r = r
-command_reply (BufferData target size usage words) r = r
+command_reply c r = r
 
 -- what a call leaves, with its command's reply
 abbrev pub with_command_reply : ObjectCommand → Outcome EsState → Outcome EsState
@@ -33,7 +32,15 @@ with_command_reply c out = record { state = out.state; oracle = out.oracle; repl
 
 -- a command on objects does what its call does
 abbrev pub object_step : EsState → ObjectCommand → Oracle → Outcome EsState
-object_step s c o = with_command_reply c (outcome_by (command_refusal s c) s (names_given c) (call.Object (spelled c)) o)
+object_step s c o = with_command_reply c (outcome_by (command_refusal s c) s (choosing (names_given c)) (call.Object (spelled c)) o)
+
+-- what a query may choose: GetError gives the recorded code with the least number
+abbrev pub query_choice : EsState → QueryCommand → Choice
+query_choice s GetError = record { names = []; code = least s.errors }
+
+-- a query does what its call does
+abbrev pub query_step : EsState → QueryCommand → Oracle → Outcome EsState
+query_step s c o = es_step s (query_choice s c) (call.Query (query_spelled c)) o
 
 -- what a step of OpenGL ES leaves of the state of the service
 abbrev pub on_wire : WireState → Outcome EsState → Outcome WireState
@@ -42,7 +49,9 @@ on_wire w out = record { state = record w { es = out.state }; oracle = out.oracl
 -- one command
 abbrev pub wire_step : WireState → Command → Oracle → Outcome WireState
 wire_step w Noop o = record { state = w; oracle = o; reply = reply.None }
+wire_step w (SetToken token) o = record { state = record w { token = token }; oracle = o; reply = reply.None }
 wire_step w (Object c) o = on_wire w (object_step w.es c o)
+wire_step w (Query c) o = on_wire w (query_step w.es c o)
 
 -- what a run of commands gives: a reply for each, the malformed command that stopped it, if any, and the state
 pub record Run : Type 0 where

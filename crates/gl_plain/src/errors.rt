@@ -1,6 +1,6 @@
 //! Error codes, and the flags that record them (OpenGL ES 2.0.25, section 2.5).
-ghost use Rattle.std.specs.Prelude.{◌≡◌};
-ghost use Rattle.gl_plain.specs.Errors.{code_of, noted, no_errors};
+ghost use Rattle.std.specs.Prelude.{◌≡◌, Some};
+ghost use Rattle.gl_plain.specs.Errors.{cleared, code_given, code_of, least, noted, no_errors};
 
 /// A code that a call is refused with.
 #[derive(Clone, Copy, Debug, PartialEq, Eq)]
@@ -61,6 +61,54 @@ impl Errors {
             GlError::InvalidOperation => self.invalid_operation = true,
             GlError::OutOfMemory => self.out_of_memory = true,
             GlError::InvalidFramebufferOperation => self.invalid_framebuffer_operation = true,
+        }
+    }
+
+    /// The least code that is recorded.
+    fn first(&self) -> Option<GlError>
+        ensures { result ≡ least self.now }
+    {
+        if self.invalid_enum {
+            return Some(GlError::InvalidEnum);
+        }
+        if self.invalid_value {
+            return Some(GlError::InvalidValue);
+        }
+        if self.invalid_operation {
+            return Some(GlError::InvalidOperation);
+        }
+        if self.out_of_memory {
+            return Some(GlError::OutOfMemory);
+        }
+        if self.invalid_framebuffer_operation {
+            return Some(GlError::InvalidFramebufferOperation);
+        }
+        None
+    }
+
+    fn clear(&mut self, error: GlError)
+        ensures { self.new ≡ cleared self.old (Some error) }
+    {
+        match error {
+            GlError::InvalidEnum => self.invalid_enum = false,
+            GlError::InvalidValue => self.invalid_value = false,
+            GlError::InvalidOperation => self.invalid_operation = false,
+            GlError::OutOfMemory => self.out_of_memory = false,
+            GlError::InvalidFramebufferOperation => self.invalid_framebuffer_operation = false,
+        }
+    }
+
+    /// Takes the least code that is recorded, and clears its flag. 0, which is NO_ERROR, where none is recorded.
+    pub fn take(&mut self) -> u32
+        ensures answer { result ≡ code_given (least self.old) }
+        ensures taken { self.new ≡ cleared self.old (least self.old) }
+    {
+        match self.first() {
+            Some(error) => {
+                self.clear(error);
+                error.code()
+            }
+            None => 0,
         }
     }
 }

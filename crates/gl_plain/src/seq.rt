@@ -1,6 +1,7 @@
 //! Lists: a `Vec` that contracts see as the list of its elements.
 ghost use Rattle.std.specs.Prelude.{List, ◌≡◌, ◌≤◌, ◌<◌, ◌+◌, ◌^◌, [], ◌∷◌, ◌++◌, length, slice_get, slice_set, IfOk, OnOk, OnErr, replicate, ◌↔◌, IsTrue};
 ghost use Rattle.std.specs.Option.{option_copied};
+ghost use Rattle.gl_plain.specs.Bytes.{overwritten};
 
 use std::alloc::{AllocError, Global};
 use std::marker::Model;
@@ -110,5 +111,14 @@ impl Seq<u8> {
     {
         let items = vec![in alloc; 0u8; count]?;
         Ok(Seq { items })
+    }
+
+    /// Puts bytes in place of those from an offset on. It takes no memory.
+    pub fn overwrite(&mut self, offset: usize, bytes: &[u8])
+        requires { offset + length bytes.now ≤ length self.old }
+        ensures { self.new ≡ overwritten self.old offset bytes.now }
+    {
+        let place = &mut self.items.as_mut_slice()[offset..offset + bytes.len()];
+        place.copy_from_slice(bytes);
     }
 }

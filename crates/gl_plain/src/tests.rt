@@ -1,5 +1,6 @@
 //! Each call on lists once, on its happy path.
-use crate::{Bytes, Errors, GlError, Seq, Words};
+use crate::{Answers, ArraySpec, Bytes, Errors, GlError, Seq, VertexAttributes, Words};
+use gl_base::GlEnum;
 use std::test::*;
 
 #[test]
@@ -15,8 +16,10 @@ fn lists_keep_their_items(rt: HostRuntime) -> Result<(), Fail> {
     assert_eq!(rt; again.len(), 2);
     let bytes = Bytes::from_slice(rt.alloc(), b"ab")?;
     assert_eq!(rt; bytes.as_slice(), b"ab".as_slice());
-    let zeros = Bytes::zeros(rt.alloc(), 3)?;
+    let mut zeros = Bytes::zeros(rt.alloc(), 3)?;
     assert_eq!(rt; zeros.as_slice(), [0, 0, 0].as_slice());
+    zeros.overwrite(1, b"ab");
+    assert_eq!(rt; zeros.as_slice(), [0, b'a', b'b'].as_slice());
     Ok(())
 }
 
@@ -27,4 +30,39 @@ fn each_code_has_its_flag(rt: HostRuntime) -> Result<(), Fail> {
     assert!(rt; errors.invalid_operation && !errors.invalid_value);
     assert_eq!(rt; GlError::InvalidOperation.code(), 0x0502);
     Ok(())
+}
+
+#[test]
+fn an_attribute_is_changed_alone(rt: HostRuntime) {
+    let mut attributes = VertexAttributes::new();
+    let opening = attributes.get(0);
+    assert!(rt; !opening.enabled && opening.array.size == 4 && opening.array.object.is_none());
+    assert_eq!(rt; opening.constant, [0, 0, 0, 0x3F80_0000]);
+    let array = ArraySpec {
+        object: Some(7),
+        size: 2,
+        kind: GlEnum(0x1402),
+        normalized: true,
+        stride: 8,
+        offset: 4,
+    };
+    attributes.set_array(3, array);
+    attributes.set_enabled(3, true);
+    attributes.set_constant(15, [1, 2, 3, 4]);
+    assert_eq!(rt; attributes.get(3).array, array);
+    assert!(rt; attributes.get(3).enabled && !attributes.get(4).enabled);
+    assert_eq!(rt; attributes.get(15).constant, [1, 2, 3, 4]);
+    assert_eq!(rt; attributes.get(0), opening);
+    attributes.unbind_buffer(8);
+    assert_eq!(rt; attributes.get(3).array.object, Some(7));
+    attributes.unbind_buffer(7);
+    assert_eq!(rt; attributes.get(3).array.object, None);
+    assert_eq!(rt; attributes.get(3).array.offset, 4);
+}
+
+#[test]
+fn no_answers_are_given_at_first(rt: HostRuntime) {
+    let answers = Answers::new(rt.alloc());
+    assert!(rt; answers.oom.is_empty());
+    assert_eq!(rt; answers.lost, None);
 }

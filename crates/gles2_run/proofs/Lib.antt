@@ -1,3 +1,5 @@
 -- The lemmas that proofs share.
-pub mod Runs
 pub mod Lines
+pub mod Takings
+pub mod Runs
+pub mod Exact

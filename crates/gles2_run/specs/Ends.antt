@@ -1,20 +1,23 @@
 -- How a run ends, what that says of its words, its input and its desk, and what is written.
-use Rattle.std.specs.Prelude.{◌≡◌, ◌⊎◌, ◌<◌, ◌≤◌, ℕ, Bool, ◌==◌, ◌||◌, List, [], ◌∷◌, length, codes, Option, Some, None, Ok, Err}
+use Rattle.std.specs.Prelude.{◌≡◌, ◌⊎◌, ◌<◌, ◌≤◌, ℕ, Bool, ◌==◌, ◌||◌, List, [], ◌∷◌, length, codes, Option, Some, None, IfSome, Ok, Err, false, ◌++◌, true}
 use Rattle.std.specs.Io.KnownBytes.{Consumes, Appends, IsAtEnd}
 use Rattle.io_edge.specs.Causes.{Rose}
 use Rattle.io_edge.specs.Pieces.{ConsumesFront, AppendsFront}
+use Rattle.gl_plain.specs.declared.calls.Reply.{Reply}
 use Rattle.gl_plain.specs.declared.commands.Stop.{Stop}
-use Rattle.gl_plain.specs.declared.script.Script.{Script}
+use Rattle.cb_shm.specs.declared.script.Script.{Script}
 use Rattle.gl_plain.specs.Tables.{opening_wire, opening_driver}
-use Rattle.gl_plain.specs.Oracle.{Oracle, default_answers}
-use Rattle.gl_plain.specs.Ring.{seen}
+use Rattle.gl_plain.specs.Oracle.{Oracle}
+use Rattle.gl_plain.specs.Oracle as given
+use Rattle.cb_fetch.specs.Seen.{seen}
 use Rattle.gl_plain.specs.Wire.{Run, wire_run}
-use Rattle.gl_plain.specs.Part.{AreParts}
+use Rattle.gl_plain.specs.Part.{AreParts, AreCutParts}
 use Rattle.gl_plain.specs.Journal.{state_after}
 use Rattle.gl_plain.specs.Agreement.{Agrees}
+use Rattle.gl_driver.specs.declared.stop.DriverStop.TheVariants as driver
 use Rattle.ring_script.specs.Script.{script_in}
 use Rattle.report_text.specs.declared.end.End.{End}
-use Rattle.report_text.specs.declared.end.End.TheVariants.{Done, Usage, BadLine, ReadFault, Stopped, NoMemory, TooLong}
+use Rattle.report_text.specs.declared.end.End.TheVariants.{Done, Usage, BadLine, ReadFault, Stopped, Lost, NoMemory, TooLong}
 use Rattle.report_text.specs.Ends.{status_of, end_text}
 use Rattle.report_text.specs.Report.{output_text}
 use Rattle.gles2_run.specs.declared.desk.Desk.{Desk}
@@ -41,18 +44,19 @@ IsTooLong before now = (input : List ℕ) × Consumes before now input × (INPUT
 
 -- the answers that a script gives to what is asked of the driver
 abbrev pub answers_of : Script → Oracle
-answers_of script = default_answers
+answers_of script = given.answers_of script.answers
 
 -- the run of a script's commands, as read, from the opening state
 abbrev pub ring_run : Script → Run
 ring_run script = wire_run opening_wire (seen script).commands (seen script).stop (answers_of script)
 
 -- The desk holds the run of a script: the replies, one part of the journal for each command, and a driver whose tables are those that
--- the calls of OpenGL ES left.
+-- the calls of OpenGL ES left. There are no more calls than are answered before the driver is lost.
 pub record HoldsRun (script : Script) (desk : Desk) : Type 0 where
   pub replies : desk.answers ≡ (ring_run script).replies
   pub parts : AreParts opening_wire opening_driver (seen script).commands (answers_of script) desk.driver.journal
   pub agrees : Agrees (ring_run script).state.es (state_after opening_driver desk.driver.journal)
+  pub within : IfSome script.answers.lost (λ n. length desk.driver.journal ≤ n)
 
 -- the input is a script, which was run to its end, or to the malformed command that the run stops at
 pub record HoldsRunOf (input : List ℕ) (stop : Option Stop) (desk : Desk) : Type 0 where
@@ -61,7 +65,41 @@ pub record HoldsRunOf (input : List ℕ) (stop : Option Stop) (desk : Desk) : Ty
   pub stopped : (ring_run script).stop ≡ stop
   pub run : HoldsRun script desk
 
--- the source gave such an input
+-- The desk holds the front of a script's run that was cut off, by a lost driver or for want of memory: the first of its replies, and of
+-- the driver calls one part for each command that was answered, in order, and a front of the part of the next one, if there is one.
+pub record HoldsFront (lost : Bool) (script : Script) (desk : Desk) : Type 0 where
+  pub replies : (more : List Reply) × ((ring_run script).replies ≡ desk.answers ++ more)
+  pub parts : AreCutParts lost opening_wire opening_driver (seen script).commands (length desk.answers) (answers_of script) desk.driver.journal
+  pub within : IfSome script.answers.lost (λ n. length desk.driver.journal ≤ n)
+
+-- the input is a script, whose run was cut off for want of memory
+pub record HoldsFrontOf (input : List ℕ) (desk : Desk) : Type 0 where
+  pub script : Script
+  pub text : script_in input ≡ Ok script
+  pub front : HoldsFront false script desk
+
+-- the input is a script, whose run was cut off where the driver was lost: it has a line that says at which call, and so many were made
+-- before it answered that it is lost
+pub record HoldsLostOf (input : List ℕ) (desk : Desk) : Type 0 where
+  pub script : Script
+  pub text : script_in input ≡ Ok script
+  pub front : HoldsFront true script desk
+  pub lost : script.answers.lost ≡ Some (length desk.driver.journal)
+  pub answered : desk.driver.stop ≡ Some driver.Lost
+
+-- the source gave an input whose run was cut off where the driver was lost
+pub record RanLost (before now : Option (List ℕ)) (ended : Type 0) (desk : Desk) : Type 0 where
+  pub input : List ℕ
+  pub read : IsInput before now ended input
+  pub held : HoldsLostOf input desk
+
+-- the source gave an input whose run was cut off for want of memory
+pub record RanShort (before now : Option (List ℕ)) (ended : Type 0) (desk : Desk) : Type 0 where
+  pub input : List ℕ
+  pub read : IsInput before now ended input
+  pub front : HoldsFrontOf input desk
+
+-- the source gave an input that was run to its end, or to a malformed command
 pub record RanTo (before now : Option (List ℕ)) (ended : Type 0) (stop : Option Stop) (desk : Desk) : Type 0 where
   pub input : List ℕ
   pub read : IsInput before now ended input
@@ -78,7 +116,8 @@ abbrev pub TextMeans : End → List ℕ → Desk → Type 0
 TextMeans (BadLine number) input desk = (script_in input ≡ Err number) × (desk ≡ new_desk)
 TextMeans Done input desk = HoldsRunOf input None desk
 TextMeans (Stopped stop) input desk = HoldsRunOf input (Some stop) desk
-TextMeans NoMemory input desk = Unit {0}
+TextMeans Lost input desk = HoldsLostOf input desk
+TextMeans NoMemory input desk = (desk ≡ new_desk) ⊎ HoldsFrontOf input desk
 TextMeans Usage input desk = ⊥
 TextMeans ReadFault input desk = ⊥
 TextMeans TooLong input desk = ⊥
@@ -91,7 +130,8 @@ Means TooLong words before now ended was is desk = IsRing words × IsTooLong bef
 Means (BadLine number) words before now ended was is desk = IsRing words × HasBadLine before now ended number × (desk ≡ new_desk)
 Means Done words before now ended was is desk = IsRing words × RanTo before now ended None desk
 Means (Stopped stop) words before now ended was is desk = IsRing words × RanTo before now ended (Some stop) desk
-Means NoMemory words before now ended was is desk = IsRing words × ((desk ≡ new_desk) ⊎ ((input : List ℕ) × IsInput before now ended input))
+Means Lost words before now ended was is desk = IsRing words × RanLost before now ended desk
+Means NoMemory words before now ended was is desk = IsRing words × ((desk ≡ new_desk) ⊎ RanShort before now ended desk)
 
 -- The status is the end's, and the sink gained its whole output; or a write failed, and it gained a front of it; or there was no
 -- memory for the output, and it gained a front of the line that says so.
@@ -104,6 +144,10 @@ Closes end desk status before after was is =
 -- the fact holds, unless a write failed or there was no memory
 abbrev pub UnlessCut : Type 0 → ℕ → Type 0
 UnlessCut fact status = fact ⊎ (status ≡ 5) ⊎ (status ≡ 7)
+
+-- the same, unless the driver was lost
+abbrev pub UnlessLost : Type 0 → ℕ → Type 0
+UnlessLost fact status = fact ⊎ (status ≡ 5) ⊎ (status ≡ 7) ⊎ (status ≡ 8)
 
 -- the words are `ring`, the source tells that it has this input, and no read failed
 pub record IsToldRing (words : List (List ℕ)) (before : Option (List ℕ)) (was is : ℕ) (input : List ℕ) : Type 0 where

@@ -1,3 +1,4 @@
 -- The definitions that contracts cite.
 pub mod Desks
 pub mod Ends
+pub mod Puts

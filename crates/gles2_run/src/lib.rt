@@ -3,7 +3,11 @@
 
 mod closing;
 mod desk;
-mod image;
+#[cfg(test)]
+mod object_tests;
+mod puts;
+#[cfg(test)]
+mod service_tests;
 #[cfg(test)]
 mod tests;
 mod top;

@@ -1,14 +1,15 @@
 //! From the words and the input to an end.
-ghost use Rattle.std.specs.Prelude.{◌≡◌, ◌↔◌, ◌<◌, ◌≤◌, ◌^◌, map, length, IsTrue, OnOk, None, Some, IsErrOf, string_bytes};
+ghost use Rattle.std.specs.Prelude.{◌≡◌, ◌↔◌, ◌<◌, ◌≤◌, ◌^◌, map, length, IsTrue, OnOk, None, Some, IsErrOf, string_bytes, false, true};
 ghost use Rattle.gl_plain.specs.declared.commands.Stop.{Stop};
-ghost use Rattle.ring_script.specs.Rules.{IsWhole};
+ghost use Rattle.gl_driver.specs.declared.stop.DriverStop.TheVariants as driver;
+ghost use Rattle.cb_shm.specs.Whole.{IsWholeScript};
 ghost use Rattle.gles2_run.specs.Desks.{new_desk};
-ghost use Rattle.gles2_run.specs.Ends.{IsRing, INPUT_LIMIT, ring_run, HoldsRun, TextMeans, Means};
+ghost use Rattle.gles2_run.specs.Ends.{IsRing, INPUT_LIMIT, ring_run, HoldsRun, HoldsFront, TextMeans, Means};
 
 use crate::desk::Desk;
-use crate::image::ring_bytes;
-use decoder_core::{Decoder, ServiceStop, serve};
-use gl_plain::Script;
+use crate::puts::take_puts;
+use cb_shm::{HostileMemory, Script};
+use decoder_core::{Service, ServiceStop};
 use io_edge::{ReadStop, Source, read_all};
 use report_text::End;
 use ring_script::{ReadRefusal, read_script};
@@ -23,30 +24,24 @@ fn is_ring(words: &[String]) -> bool
     }
 }
 
-/// Executes the commands of a script.
-fn execute(alloc: Global, script: &Script, desk: &mut Desk) -> Result<(), ServiceStop>
-    requires whole { IsWhole script.now }
+/// Executes the commands of a script, in the memory that it describes, with a driver that answers as it says.
+fn execute(alloc: Global, script: Script, desk: &mut Desk) -> Result<(), ServiceStop>
+    requires whole { IsWholeScript script }
     requires fresh { desk.old ≡ new_desk }
-    ensures done { OnOk result (((ring_run script.now).stop ≡ None) × HoldsRun script.now desk.new) }
-    ensures bad { (stop : Stop) → IsErrOf result (ServiceStop.Bad stop) → ((ring_run script.now).stop ≡ Some stop) × HoldsRun script.now desk.new }
-    ensures kept { IsErrOf result ServiceStop.Lost → ⊥ }
+    ensures done { OnOk result (((ring_run script).stop ≡ None) × HoldsRun script desk.new) }
+    ensures bad { (stop : Stop) → IsErrOf result (ServiceStop.Bad stop) → ((ring_run script).stop ≡ Some stop) × HoldsRun script desk.new }
+    ensures lost { IsErrOf result ServiceStop.Lost → HoldsFront true script desk.new × (script.answers.lost ≡ Some (length desk.new.driver.journal)) × (desk.new.driver.stop ≡ Some driver.Lost) }
+    ensures short { IsErrOf result ServiceStop.NoMemory → HoldsFront false script desk.new }
 {
-    let Ok(ring) = ring_bytes(alloc, script) else {
+    let Ok(mut memory) = HostileMemory::new(alloc, &script) else {
         return Err(ServiceStop::NoMemory);
     };
-    let mut decoder = Decoder::new(alloc);
-    match script.puts.as_slice() {
-        [] => Ok(()),
-        [put, ..] => serve(
-            alloc,
-            &mut decoder,
-            &ring,
-            script.entries,
-            *put,
-            &mut desk.answers,
-            &mut desk.driver,
-        ),
-    }
+    let mut service = Service::new(alloc, script.entries);
+    desk.driver.load(script.answers);
+    let taken = take_puts(&mut service, &mut memory, script.puts.as_slice(), desk);
+    // The journal's clauses say how many calls there are at most, and at which of them the driver was lost.
+    desk.driver.journal();
+    taken
 }
 
 /// Runs the script that a text is.
@@ -60,11 +55,11 @@ fn run_text(alloc: Global, text: &[u8], desk: &mut Desk) -> End
         Err(ReadRefusal::BadLine(number)) => return End::BadLine(number),
         Err(ReadRefusal::NoMemory) => return End::NoMemory,
     };
-    match execute(alloc, &script, desk) {
+    match execute(alloc, script, desk) {
         Ok(()) => End::Done,
         Err(ServiceStop::Bad(stop)) => End::Stopped(stop),
         Err(ServiceStop::NoMemory) => End::NoMemory,
-        Err(ServiceStop::Lost) => unreachable!(),
+        Err(ServiceStop::Lost) => End::Lost,
     }
 }
 

@@ -4,7 +4,7 @@ use Rattle.std.specs.Fmt.{decimal}
 use Rattle.gl_plain.specs.declared.commands.Malformed.{Malformed}
 use Rattle.gl_plain.specs.declared.commands.Malformed.TheVariants.{InvalidSize, OutOfBounds, UnknownCommand, InvalidArguments}
 use Rattle.report_text.specs.declared.end.End.{End}
-use Rattle.report_text.specs.declared.end.End.TheVariants.{Done, Usage, BadLine, ReadFault, Stopped, NoMemory, TooLong}
+use Rattle.report_text.specs.declared.end.End.TheVariants.{Done, Usage, BadLine, ReadFault, Stopped, NoMemory, Lost, TooLong}
 
 -- each way to end has a status of its own
 abbrev pub status_of : End → ℕ
@@ -14,6 +14,7 @@ status_of (BadLine number) = 3
 status_of ReadFault = 4
 status_of (Stopped stop) = 6
 status_of NoMemory = 7
+status_of Lost = 8
 status_of TooLong = 9
 
 -- why a command is malformed, in one word
@@ -31,4 +32,5 @@ end_text (BadLine number) = codes "bad line " ++ (decimal number ++ codes "\n")
 end_text ReadFault = codes "end read fault\n"
 end_text (Stopped stop) = codes "stop " ++ (kind_text stop.kind ++ (codes " " ++ (decimal stop.place ++ codes "\n")))
 end_text NoMemory = codes "end no memory\n"
+end_text Lost = codes "end driver lost\n"
 end_text TooLong = codes "end too long\n"

@@ -1,7 +1,7 @@
 -- The definitions that contracts cite.
+pub mod Lines
 pub mod Values
 pub mod Calls
-pub mod Lines
 pub mod Journal
 pub mod Replies
 pub mod Ends

@@ -20,6 +20,8 @@ pub enum End {
     Stopped(Stop),
     /// There was no memory for what had to be kept.
     NoMemory,
+    /// The driver was lost.
+    Lost,
     /// The input is longer than the program takes.
     TooLong,
 }
@@ -36,6 +38,7 @@ impl End {
             End::ReadFault => 4,
             End::Stopped(_) => 6,
             End::NoMemory => 7,
+            End::Lost => 8,
             End::TooLong => 9,
         }
     }
@@ -67,6 +70,7 @@ fn end_line(alloc: Global, end: End) -> Result<String, AllocError>
             format!(in alloc; "stop {kind} {place}\n")
         }
         End::NoMemory => String::from_str(alloc, "end no memory\n"),
+        End::Lost => String::from_str(alloc, "end driver lost\n"),
         End::TooLong => String::from_str(alloc, "end too long\n"),
     }
 }

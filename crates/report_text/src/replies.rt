@@ -1,20 +1,33 @@
 //! The lines of replies.
-ghost use Rattle.std.specs.Prelude.{◌≡◌, ◌++◌, ℕ, OnOk, OnErr, take, string_bytes};
-ghost use Rattle.report_text.specs.Replies.{names_text, reply_text};
+ghost use Rattle.std.specs.Prelude.{◌≡◌, ◌++◌, ℕ, OnOk, OnErr, take, map, string_bytes};
+ghost use Rattle.std.specs.Fmt.{decimal};
+ghost use Rattle.report_text.specs.Lines.{spaced};
+ghost use Rattle.report_text.specs.Replies.{code_text, reply_text};
 
 use crate::lines::{Line, write_lines};
+use gl_base::error_name;
 use gl_plain::Reply;
 use std::alloc::{AllocError, Global};
 
 /// Writes each name with a space before it.
 fn write_names(out: &mut String, names: &[u32]) -> Result<(), AllocError>
-    ensures { OnOk result (string_bytes out.new ≡ string_bytes out.old ++ names_text names.now) }
+    ensures { OnOk result (string_bytes out.new ≡ string_bytes out.old ++ spaced (map decimal names.now)) }
 {
     for name in names {
         let name = *name;
         write!(out, " {name}")?;
     }
     Ok(())
+}
+
+/// Writes an error code by its name. A number that is no error code, which no reply has, is written as it is.
+fn write_code(out: &mut String, code: u32) -> Result<(), AllocError>
+    ensures { OnOk result (string_bytes out.new ≡ string_bytes out.old ++ code_text code) }
+{
+    match error_name(code) {
+        Some(name) => out.push_str(name),
+        None => write!(out, "{code}"),
+    }
 }
 
 impl Line for Reply {
@@ -29,6 +42,11 @@ impl Line for Reply {
             Reply::Names(names) => {
                 write!(out, "reply {k} names")?;
                 write_names(out, names.as_slice())?;
+                out.push_str("\n")
+            }
+            Reply::Error(code) => {
+                write!(out, "reply {k} error ")?;
+                write_code(out, *code)?;
                 out.push_str("\n")
             }
         }

@@ -65,6 +65,96 @@ driver 9 buffer_data 0x8892 33:ababababababababababababababababababababababababa
 }
 
 #[test]
+fn changes_and_deletes_have_lines(rt: HostRuntime) -> Result<(), Fail> {
+    let alloc = rt.alloc();
+    let mut entries = Vec::new(alloc);
+    for (offset, bytes) in [
+        (0, &[][..]),
+        (54, &[0x03, 0xFF]),
+        (i32::MAX, &[0xAB; 32]),
+        (i32::MIN, &[0xAB; 33]),
+    ] {
+        let call = ObjectDriver::BufferSubData {
+            target: GlEnum(0x8893),
+            offset,
+            bytes: Seq::from_slice(alloc, bytes)?,
+        };
+        entries.push(entry(call, Answer::Done))?;
+    }
+    for name in [0, 1, u64::MAX] {
+        entries.push(entry(ObjectDriver::DeleteBuffer { name }, Answer::Done))?;
+    }
+    let mut text = String::new(alloc);
+    write_journal(alloc, &mut text, &entries)?;
+    assert_eq!(rt;
+        text.as_str(),
+        "driver 0 buffer_sub_data 0x8893 0 0:-
+driver 1 buffer_sub_data 0x8893 54 2:03ff
+driver 2 buffer_sub_data 0x8893 2147483647 32:abababababababababababababababababababababababababababababababab
+driver 3 buffer_sub_data 0x8893 -2147483648 33:abababababababababababababababababababababababababababababababab+
+driver 4 delete_buffer 0
+driver 5 delete_buffer 1
+driver 6 delete_buffer 18446744073709551615
+"
+    );
+    Ok(())
+}
+
+fn pointer(
+    index: u32,
+    size: i32,
+    kind: u32,
+    normalized: bool,
+    stride: i32,
+    offset: u32,
+) -> DriverEntry {
+    let call = ObjectDriver::VertexAttribPointer {
+        index,
+        size,
+        kind: GlEnum(kind),
+        normalized,
+        stride,
+        offset,
+    };
+    entry(call, Answer::Done)
+}
+
+#[test]
+fn calls_on_attributes_have_lines(rt: HostRuntime) -> Result<(), Fail> {
+    let alloc = rt.alloc();
+    let constant = |index, values| entry(
+        ObjectDriver::VertexAttrib4 { index, values },
+        Answer::Done,
+    );
+    let switch = |index, on| entry(ObjectDriver::SetArray { index, on }, Answer::Done);
+    let entries = [
+        constant(5, [0x7F80_0000, 0x0C6D_EA3D, 0x3F00_0000, 0x7FC0_0000]),
+        constant(u32::MAX, [0, 1, 0x0FFF_FFFF, u32::MAX]),
+        pointer(0, 4, 0x1401, true, 5, 6),
+        pointer(7, 3, 0x1406, false, 16, 32),
+        pointer(u32::MAX, i32::MIN, 0, true, i32::MIN, u32::MAX),
+        pointer(0, i32::MAX, 0x0001_0000, false, i32::MAX, 0),
+        switch(0, true),
+        switch(u32::MAX, false),
+    ];
+    let mut text = String::new(alloc);
+    write_journal(alloc, &mut text, &entries)?;
+    assert_eq!(rt;
+        text.as_str(),
+        "driver 0 vertex_attrib_4 5 0x7F800000 0x0C6DEA3D 0x3F000000 0x7FC00000
+driver 1 vertex_attrib_4 4294967295 0x00000000 0x00000001 0x0FFFFFFF 0xFFFFFFFF
+driver 2 vertex_attrib_pointer 0 4 0x1401 1 5 6
+driver 3 vertex_attrib_pointer 7 3 0x1406 0 16 32
+driver 4 vertex_attrib_pointer 4294967295 -2147483648 0x0000 1 -2147483648 4294967295
+driver 5 vertex_attrib_pointer 0 2147483647 0x10000 0 2147483647 0
+driver 6 set_array 0 1
+driver 7 set_array 4294967295 0
+"
+    );
+    Ok(())
+}
+
+#[test]
 fn replies_that_give_nothing_are_counted(rt: HostRuntime) -> Result<(), Fail> {
     let alloc = rt.alloc();
     let mut replies = Vec::new(alloc);
@@ -78,6 +168,29 @@ fn replies_that_give_nothing_are_counted(rt: HostRuntime) -> Result<(), Fail> {
     assert_eq!(rt;
         text.as_str(),
         "before\nreply 1 names 7 0 4294967295\nreply 4 names\n"
+    );
+    Ok(())
+}
+
+#[test]
+fn errors_have_names(rt: HostRuntime) -> Result<(), Fail> {
+    let alloc = rt.alloc();
+    let mut replies = Vec::new(alloc);
+    replies.push(Reply::None)?;
+    for code in [0, 0x0500, 0x0501, 0x0502, 0x0505, 0x0506] {
+        replies.push(Reply::Error(code))?;
+    }
+    let mut text = String::new(alloc);
+    write_replies(alloc, &mut text, &replies)?;
+    assert_eq!(rt;
+        text.as_str(),
+        "reply 1 error NO_ERROR
+reply 2 error INVALID_ENUM
+reply 3 error INVALID_VALUE
+reply 4 error INVALID_OPERATION
+reply 5 error OUT_OF_MEMORY
+reply 6 error INVALID_FRAMEBUFFER_OPERATION
+"
     );
     Ok(())
 }
@@ -112,6 +225,7 @@ fn each_end_has_a_line_and_a_status(rt: HostRuntime) -> Result<(), Fail> {
             "stop InvalidArguments 1048575\n",
         ),
         (End::NoMemory, 7, "end no memory\n"),
+        (End::Lost, 8, "end driver lost\n"),
         (End::TooLong, 9, "end too long\n"),
     ];
     for (end, status, line) in rows {

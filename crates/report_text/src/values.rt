@@ -1,7 +1,8 @@
-//! Enums and bytes as they are printed.
-ghost use Rattle.std.specs.Prelude.{◌≡◌, ◌++◌, ◌≤◌, OnOk, Some, length, string_bytes};
+//! The arguments of a call as they are printed.
+ghost use Rattle.std.specs.Prelude.{◌≡◌, ◌++◌, ◌≤◌, OnOk, Some, length, map, string_bytes};
 ghost use Rattle.hex.specs.Hex.{encode_lower};
-ghost use Rattle.report_text.specs.Values.{shown_bytes, bytes_text};
+ghost use Rattle.report_text.specs.Lines.{spaced};
+ghost use Rattle.report_text.specs.Values.{pattern_text, flag_text, shown_bytes, bytes_text};
 
 use gl_base::GlEnum;
 use std::alloc::AllocError;
@@ -19,11 +20,45 @@ impl fmt::Display for EnumText {
 
     ghost output = { λ shown. Some (enum_text shown.0.0) };
 
-    #[tactic(auto, using(crate::proofs::Padded::padded_to_four), unfolding(crate::specs::Values::enum_text))]
+    #[tactic(auto, using(crate::proofs::Padded::padded_to), unfolding(crate::specs::Values::enum_text))]
     fn fmt<W: fmt::Write>(&self, f: &mut fmt::Formatter<W>) -> fmt::Result {
         let value = self.0.0;
         write!(f, "0x{value:04X}")
     }
+}
+
+/// The pattern of a float, printed as `0x` and eight upper-case digits.
+#[derive(Clone, Copy)]
+struct PatternText(u32);
+
+impl fmt::Display for PatternText {
+    ghost use Rattle.report_text.specs.Values.{pattern_text};
+
+    ghost output = { λ shown. Some (pattern_text shown.0) };
+
+    #[tactic(auto, using(crate::proofs::Padded::padded_to), unfolding(crate::specs::Values::pattern_text))]
+    fn fmt<W: fmt::Write>(&self, f: &mut fmt::Formatter<W>) -> fmt::Result {
+        let value = self.0;
+        write!(f, "0x{value:08X}")
+    }
+}
+
+/// Writes each pattern of a float with a space before it.
+pub fn write_patterns(out: &mut String, patterns: &[u32]) -> Result<(), AllocError>
+    ensures { OnOk result (string_bytes out.new ≡ string_bytes out.old ++ spaced (map pattern_text patterns.now)) }
+{
+    for pattern in patterns {
+        let pattern = PatternText(*pattern);
+        write!(out, " {pattern}")?;
+    }
+    Ok(())
+}
+
+/// 1 for what is so, 0 for what is not.
+pub fn flag_digit(flag: bool) -> &'static str
+    ensures { result.now ≡ flag_text flag }
+{
+    if flag { "1" } else { "0" }
 }
 
 /// Writes two digits for each byte.

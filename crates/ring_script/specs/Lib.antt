@@ -1,5 +1,7 @@
 -- The definitions that contracts cite.
+pub mod Distinct
 pub mod Fields
 pub mod Lines
+pub mod Limits
 pub mod Rules
 pub mod Script

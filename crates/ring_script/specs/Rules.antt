@@ -1,54 +1,87 @@
 -- Where each kind of line may stand, and what the lines so far say.
-use Rattle.std.specs.Prelude.{◌≡◌, ℕ, ◌+◌, ◌*◌, ◌≤◌, [], ◌∷◌, ◌++◌, length, ◌==◌, ◌&&◌, nat_le, if◌then◌else◌, Option, Some, None, is_none, unwrap_or}
-use Rattle.std.specs.List.{AllByRecursion}
-use Rattle.gl_plain.specs.declared.script.Patch.{Patch}
-use Rattle.gl_plain.specs.declared.script.Script.{Script}
+use Rattle.std.specs.Prelude.{ℕ, Bool, ◌+◌, [], ◌∷◌, ◌++◌, length, ◌==◌, ◌&&◌, not, nat_le, if◌then◌else◌, Option, Some, None, is_none, unwrap_or}
+use Rattle.gl_plain.specs.Regions.{is_inside}
+use Rattle.gl_plain.specs.declared.memory.Patch.{Patch}
+use Rattle.gl_plain.specs.declared.memory.Region.{Region}
+use Rattle.gl_plain.specs.declared.memory.Timed.{Timed}
+use Rattle.cb_shm.specs.Hostile.{listed_size, script_sizes}
+use Rattle.cb_shm.specs.Whole.{IsWholeScript}
+use Rattle.cb_shm.specs.declared.script.Script.{Script}
+use Rattle.ring_script.specs.Distinct.{is_listed}
+use Rattle.ring_script.specs.Limits.{total_bytes, IsWithinLimits}
 use Rattle.ring_script.specs.declared.draft.Draft.{Draft}
 use Rattle.ring_script.specs.declared.line.Line.{Line}
-use Rattle.ring_script.specs.declared.line.Line.TheVariants.{PassedOver, Ring, Opening, Put}
+use Rattle.ring_script.specs.declared.line.Line.TheVariants.{PassedOver, Ring, Region as OfRegion, Opening, At, Put, Oom, Lost}
 
--- no line has said anything
+-- what is said before the first line
 abbrev pub empty_draft : Draft
-empty_draft = record { ring = None; opening = []; puts = [] }
+empty_draft = record { ring = None; regions = []; opening = []; timed = []; puts = []; oom = []; lost = None }
 
 -- without a `ring` line the ring has 4,096 entries
 abbrev pub entries_of : Draft → ℕ
 entries_of draft = unwrap_or draft.ring 4096
 
--- `ring` stands once, before any `bytes` or `put`, with 2 to 1,048,576 entries
+-- the script that the lines say
+abbrev pub script_of : Draft → Script
+script_of draft = record {
+  entries = entries_of draft;
+  regions = draft.regions;
+  opening = draft.opening;
+  timed = draft.timed;
+  puts = draft.puts;
+  answers = record { oom = draft.oom; lost = draft.lost };
+}
+
+-- no line has said anything so far, but perhaps of the driver's answers
+abbrev pub is_first : Draft → Bool
+is_first draft = is_none draft.ring && (length draft.regions == 0) && (length draft.opening == 0) && (length draft.timed == 0) && (length draft.puts == 0)
+
+-- `ring` stands once, before any other line that says something but `oom` and `lost`, with 2 to 1,048,576 entries
 unfoldable pub with_ring : Draft → ℕ → Option Draft
-with_ring draft n =
-    if is_none draft.ring && (length draft.opening == 0) && (length draft.puts == 0) && nat_le 2 n && nat_le n 1048576
-    then Some (record draft { ring = Some n }) else None
+with_ring draft n = if is_first draft && nat_le 2 n && nat_le n 1048576 then Some (record draft { ring = Some n }) else None
 
--- `bytes` is of the ring, region 0, and lies inside its four bytes an entry
+-- `region` gives a number from 1 to 255 once, and at most 67,108,864 bytes; all regions have at most 268,435,456 with the ring
+unfoldable pub with_region : Draft → Region → Option Draft
+with_region draft r =
+    if nat_le 1 r.id && nat_le r.id 255 && is_none (listed_size draft.regions r.id) && nat_le r.size 67108864 && nat_le (total_bytes (script_of draft) + r.size) 268435456
+    then Some (record draft { regions = draft.regions ++ r ∷ [] }) else None
+
+-- `bytes` lies in a region that stands before it
 unfoldable pub with_opening : Draft → Patch → Option Draft
-with_opening draft patch =
-    if (patch.region == 0) && nat_le (patch.offset + length patch.bytes) (4 * entries_of draft)
-    then Some (record draft { opening = draft.opening ++ patch ∷ [] }) else None
+with_opening draft p =
+    if is_inside (script_sizes (script_of draft)) p.region p.offset (length p.bytes)
+    then Some (record draft { opening = draft.opening ++ p ∷ [] }) else None
 
--- `put` stands once
-unfoldable pub with_put : Draft → ℕ → Option Draft
-with_put draft put = if length draft.puts == 0 then Some (record draft { puts = put ∷ [] }) else None
+-- `at` lies in a region that stands before it
+unfoldable pub with_timed : Draft → Timed → Option Draft
+with_timed draft t =
+    if is_inside (script_sizes (script_of draft)) t.region t.offset (length t.bytes)
+    then Some (record draft { timed = draft.timed ++ t ∷ [] }) else None
+
+-- `put` stands anywhere, and any number of times
+abbrev pub with_put : Draft → ℕ → Draft
+with_put draft put = record draft { puts = draft.puts ++ put ∷ [] }
+
+-- `oom` stands anywhere, and names a question once
+unfoldable pub with_oom : Draft → ℕ → Option Draft
+with_oom draft question = if not (is_listed draft.oom question) then Some (record draft { oom = draft.oom ++ question ∷ [] }) else None
+
+-- `lost` stands anywhere, once
+unfoldable pub with_lost : Draft → ℕ → Option Draft
+with_lost draft call = if is_none draft.lost then Some (record draft { lost = Some call }) else None
 
 -- what the lines before say together with a line that may stand after them
 unfoldable pub draft_after : Draft → Line → Option Draft
 draft_after draft PassedOver = Some draft
 draft_after draft (Ring n) = with_ring draft n
-draft_after draft (Opening patch) = with_opening draft patch
-draft_after draft (Put put) = with_put draft put
+draft_after draft (OfRegion r) = with_region draft r
+draft_after draft (Opening p) = with_opening draft p
+draft_after draft (At t) = with_timed draft t
+draft_after draft (Put put) = Some (with_put draft put)
+draft_after draft (Oom question) = with_oom draft question
+draft_after draft (Lost call) = with_lost draft call
 
--- the script that the lines say
-abbrev pub script_of : Draft → Script
-script_of draft = record { entries = entries_of draft; opening = draft.opening; puts = draft.puts }
-
--- a patch is of the ring, region 0, and lies inside its bytes
-pub record IsInRing (size : ℕ) (patch : Patch) : Type 0 where
-  pub ring : patch.region ≡ 0
-  pub inside : patch.offset + length patch.bytes ≤ size
-
--- the number of entries is in its range, and each patch lies inside the ring
-pub record IsWhole (script : Script) : Type 0 where
-  pub low : 2 ≤ script.entries
-  pub high : script.entries ≤ 1048576
-  pub inside : AllByRecursion (IsInRing (4 * script.entries)) script.opening
+-- the lines so far say a whole script within the limits
+pub record IsSound (draft : Draft) : Type 0 where
+  pub whole : IsWholeScript (script_of draft)
+  pub limits : IsWithinLimits (script_of draft)

@@ -1,9 +1,14 @@
 //! Where each kind of line may stand, and what the lines so far say.
-ghost use Rattle.std.specs.Prelude.{◌≡◌, if◌then◌else◌, IfOk, OnOk};
-ghost use Rattle.ring_script.specs.Rules.{draft_after, empty_draft, entries_of, script_of, with_opening, with_put, with_ring, IsWhole};
+ghost use Rattle.std.specs.Prelude.{◌≡◌, ◌≤◌, if◌then◌else◌, IfOk};
+ghost use Rattle.gl_plain.specs.Regions.{is_inside};
+ghost use Rattle.cb_shm.specs.Hostile.{listed_size, script_sizes};
+ghost use Rattle.ring_script.specs.Limits.{listed_bytes, total_bytes, IsWithinLimits};
+ghost use Rattle.ring_script.specs.Rules.{draft_after, empty_draft, entries_of, is_first, script_of, with_lost, with_oom, with_opening, with_put, with_region, with_ring, with_timed, IsSound};
 
+use crate::distinct::DistinctNumbers;
 use crate::line::Line;
-use gl_plain::{Patch, PatchList, Script, Words};
+use cb_shm::Script;
+use gl_plain::{Answers, Patch, PatchList, Region, RegionList, Timed, TimedList, Words};
 use std::alloc::{AllocError, Global};
 
 /// How many entries the ring has without a `ring` line.
@@ -12,12 +17,49 @@ const DEFAULT_ENTRIES: u32 = 4096;
 /// How many entries the ring has at most.
 const MAX_ENTRIES: u32 = 1_048_576;
 
+/// The greatest number of a region. The ring is region 0.
+const MAX_REGION: u32 = 255;
+
+/// How many bytes a region has at most.
+const MAX_REGION_BYTES: u32 = 67_108_864;
+
+/// How many bytes the ring and the regions have together at most.
+const MAX_TOTAL_BYTES: u64 = 268_435_456;
+
 /// What the lines so far have said.
-#[derive(Debug, Drop)]
+#[derive(Drop)]
 pub struct Draft {
     pub ring: Option<u32>,
+    pub regions: RegionList,
     pub opening: PatchList,
+    pub timed: TimedList,
     pub puts: Words,
+    pub oom: DistinctNumbers,
+    pub lost: Option<u32>,
+}
+
+/// The size of the region of this number.
+fn listed_size(regions: &[Region], id: u32) -> Option<u32>
+    ensures { result ≡ listed_size regions.now id }
+{
+    for region in regions {
+        if region.id == id {
+            return Some(region.size);
+        }
+    }
+    None
+}
+
+/// The sizes of the regions together.
+fn listed_bytes(regions: &[Region]) -> u64
+    requires { listed_bytes regions.now ≤ 268435456 }
+    ensures { result ≡ listed_bytes regions.now }
+{
+    let mut bytes = 0u64;
+    for region in regions {
+        bytes += u64::from(region.size);
+    }
+    bytes
 }
 
 impl Draft {
@@ -27,8 +69,12 @@ impl Draft {
     {
         Draft {
             ring: None,
+            regions: RegionList::new(alloc),
             opening: PatchList::new(alloc),
+            timed: TimedList::new(alloc),
             puts: Words::new(alloc),
+            oom: DistinctNumbers::new(alloc),
+            lost: None,
         }
     }
 
@@ -38,28 +84,78 @@ impl Draft {
         self.ring.unwrap_or(DEFAULT_ENTRIES)
     }
 
+    fn is_first(&self) -> bool
+        ensures { result ≡ is_first self.now }
+    {
+        self.ring.is_none()
+            && self.regions.is_empty()
+            && self.opening.is_empty()
+            && self.timed.is_empty()
+            && self.puts.is_empty()
+    }
+
+    /// The size in bytes of a region that is there.
+    fn size(&self, region: u32) -> Option<u64>
+        ensures { result ≡ script_sizes (script_of self.now) region }
+    {
+        if region == 0 {
+            return Some(4 * u64::from(self.entries()));
+        }
+        let size = listed_size(self.regions.as_slice(), region)?;
+        Some(u64::from(size))
+    }
+
+    /// Whether a range lies in a region that is there.
+    fn contains(&self, region: u32, offset: u32, count: usize) -> bool
+        ensures { result ≡ is_inside (script_sizes (script_of self.now)) region offset count }
+    {
+        match self.size(region) {
+            Some(size) => u64::from(offset) <= size && count as u64 <= size - u64::from(offset),
+            None => false,
+        }
+    }
+
+    /// How many bytes the ring and the regions have together.
+    fn total_bytes(&self) -> u64
+        requires { IsWithinLimits (script_of self.now) }
+        ensures { result ≡ total_bytes (script_of self.now) }
+    {
+        4 * u64::from(self.entries()) + listed_bytes(self.regions.as_slice())
+    }
+
     #[tactic(auto, unfolding(crate::specs::Rules::with_ring))]
     fn take_ring(&mut self, entries: u32) -> bool
-        requires { IsWhole (script_of self.old) }
-        ensures taken { with_ring self.old entries ≡ (if result then Some self.new else None) }
-        ensures whole { IsWhole (script_of self.new) }
+        ensures { with_ring self.old entries ≡ (if result then Some self.new else None) }
     {
-        let is_first = self.ring.is_none() && self.opening.is_empty() && self.puts.is_empty();
-        let is_taken = is_first && entries >= 2 && entries <= MAX_ENTRIES;
+        let is_taken = self.is_first() && entries >= 2 && entries <= MAX_ENTRIES;
         if is_taken {
             self.ring = Some(entries);
         }
         is_taken
     }
 
+    #[tactic(auto, unfolding(crate::specs::Rules::with_region))]
+    fn take_region(&mut self, region: Region) -> Result<bool, AllocError>
+        requires { IsSound self.old }
+        ensures { IfOk result (λ taken. with_region self.old region ≡ (if taken then Some self.new else None)) }
+    {
+        let has_number = region.id >= 1 && region.id <= MAX_REGION;
+        let is_new = listed_size(self.regions.as_slice(), region.id).is_none();
+        let total = self.total_bytes() + u64::from(region.size);
+        let has_room = region.size <= MAX_REGION_BYTES && total <= MAX_TOTAL_BYTES;
+        if has_number && is_new && has_room {
+            self.regions.push(region)?;
+            Ok(true)
+        } else {
+            Ok(false)
+        }
+    }
+
     #[tactic(auto, unfolding(crate::specs::Rules::with_opening))]
     fn take_opening(&mut self, patch: Patch) -> Result<bool, AllocError>
-        requires { IsWhole (script_of self.old) }
-        ensures taken { IfOk result (λ taken. with_opening self.old patch ≡ (if taken then Some self.new else None)) }
-        ensures whole { OnOk result (IsWhole (script_of self.new)) }
+        ensures { IfOk result (λ taken. with_opening self.old patch ≡ (if taken then Some self.new else None)) }
     {
-        let end = u64::from(patch.offset) + patch.bytes.len() as u64;
-        if patch.region == 0 && end <= 4 * u64::from(self.entries()) {
+        if self.contains(patch.region, patch.offset, patch.bytes.len()) {
             self.opening.push(patch)?;
             Ok(true)
         } else {
@@ -67,32 +163,58 @@ impl Draft {
         }
     }
 
-    #[tactic(auto, unfolding(crate::specs::Rules::with_put))]
-    fn take_put(&mut self, put: u32) -> Result<bool, AllocError>
-        requires { IsWhole (script_of self.old) }
-        ensures taken { IfOk result (λ taken. with_put self.old put ≡ (if taken then Some self.new else None)) }
-        ensures whole { OnOk result (IsWhole (script_of self.new)) }
+    #[tactic(auto, unfolding(crate::specs::Rules::with_timed))]
+    fn take_timed(&mut self, timed: Timed) -> Result<bool, AllocError>
+        ensures { IfOk result (λ taken. with_timed self.old timed ≡ (if taken then Some self.new else None)) }
     {
-        if self.puts.is_empty() {
-            self.puts.push(put)?;
+        if self.contains(timed.region, timed.offset, timed.bytes.len()) {
+            self.timed.push(timed)?;
             Ok(true)
         } else {
             Ok(false)
         }
     }
 
+    fn take_put(&mut self, put: u32) -> Result<bool, AllocError>
+        ensures { IfOk result (λ taken. Some (with_put self.old put) ≡ (if taken then Some self.new else None)) }
+    {
+        self.puts.push(put)?;
+        Ok(true)
+    }
+
+    #[tactic(auto, unfolding(crate::specs::Rules::with_oom))]
+    fn take_oom(&mut self, question: u32) -> Result<bool, AllocError>
+        ensures { IfOk result (λ taken. with_oom self.old question ≡ (if taken then Some self.new else None)) }
+    {
+        self.oom.add(question)
+    }
+
+    #[tactic(auto, unfolding(crate::specs::Rules::with_lost))]
+    fn take_lost(&mut self, call: u32) -> bool
+        ensures { with_lost self.old call ≡ (if result then Some self.new else None) }
+    {
+        let is_taken = self.lost.is_none();
+        if is_taken {
+            self.lost = Some(call);
+        }
+        is_taken
+    }
+
     /// Takes a line, where it may stand after those before it. The answer is whether it may.
     #[tactic(auto, unfolding(crate::specs::Rules::draft_after))]
     pub fn take(&mut self, line: Line) -> Result<bool, AllocError>
-        requires { IsWhole (script_of self.old) }
-        ensures taken { IfOk result (λ taken. draft_after self.old line ≡ (if taken then Some self.new else None)) }
-        ensures whole { OnOk result (IsWhole (script_of self.new)) }
+        requires { IsSound self.old }
+        ensures { IfOk result (λ taken. draft_after self.old line ≡ (if taken then Some self.new else None)) }
     {
         match line {
             Line::PassedOver => Ok(true),
             Line::Ring(entries) => Ok(self.take_ring(entries)),
+            Line::Region(region) => self.take_region(region),
             Line::Opening(patch) => self.take_opening(patch),
+            Line::At(timed) => self.take_timed(timed),
             Line::Put(put) => self.take_put(put),
+            Line::Oom(question) => self.take_oom(question),
+            Line::Lost(call) => Ok(self.take_lost(call)),
         }
     }
 
@@ -103,13 +225,21 @@ impl Draft {
         let entries = self.entries();
         let Draft {
             ring: _,
+            regions,
             opening,
+            timed,
             puts,
+            oom,
+            lost,
         } = self;
+        let oom = oom.into_words();
         Script {
             entries,
+            regions,
             opening,
+            timed,
             puts,
+            answers: Answers { oom, lost },
         }
     }
 }

@@ -1,13 +1,15 @@
 //! The script that a text stands for, or its first line outside the grammar.
-ghost use Rattle.std.specs.Prelude.{◌≡◌, ◌<◌, ◌^◌, ◌∷◌, ℕ, length, if◌then◌else◌, IfOk, OnOk, IsErrOf};
-ghost use Rattle.ring_script.specs.Rules.{script_of, IsWhole};
+ghost use Rattle.std.specs.Prelude.{◌≡◌, ◌<◌, ◌^◌, ◌∷◌, ℕ, length, if◌then◌else◌, IfOk, IsErrOf};
+ghost use Rattle.cb_shm.specs.Whole.{IsWholeScript};
+ghost use Rattle.ring_script.specs.Limits.{IsWithinLimits};
+ghost use Rattle.ring_script.specs.Rules.{IsSound};
 ghost use Rattle.ring_script.specs.Script.{draft_with, lines_of, script_in, IsFirstBad};
 ghost use Rattle.ring_script.specs.declared.script.ReadRefusal.TheVariants.{NoMemory};
 
 use crate::draft::Draft;
 use crate::field::cut;
 use crate::line::read_line;
-use gl_plain::Script;
+use cb_shm::Script;
 use std::alloc::{AllocError, Global};
 
 /// Why a text was not read.
@@ -41,9 +43,8 @@ fn first_line(text: &[u8]) -> (&[u8], &[u8])
 
 /// Takes the next line, where it is in the grammar and may stand there. The answer is whether it does.
 fn take_text(alloc: Global, draft: &mut Draft, text: &[u8]) -> Result<bool, AllocError>
-    requires { IsWhole (script_of draft.old) }
+    requires { IsSound draft.old }
     ensures taken { IfOk result (λ taken. draft_with text.now draft.old ≡ (if taken then Some draft.new else None)) }
-    ensures whole { OnOk result (IsWhole (script_of draft.new)) }
 {
     match read_line(alloc, text)? {
         Some(line) => draft.take(line),
@@ -51,7 +52,8 @@ fn take_text(alloc: Global, draft: &mut Draft, text: &[u8]) -> Result<bool, Allo
     }
 }
 
-/// The script that a text stands for. Each line is read once, in place, and decoded bytes are not copied again.
+/// The script that a text stands for. Each line is read once, in place, and decoded bytes are not copied again. A script that was
+/// read describes a memory: its regions have numbers of their own and sizes within the limits, and what is written lies in them.
 ///
 /// # Errors
 ///
@@ -59,7 +61,8 @@ fn take_text(alloc: Global, draft: &mut Draft, text: &[u8]) -> Result<bool, Allo
 pub fn read_script(alloc: Global, text: &[u8]) -> Result<Script, ReadRefusal>
     requires { length (lines_of text.now) < 2 ^ 32 }
     ensures ok { IfOk result (λ script. script_in text.now ≡ Ok script) }
-    ensures whole { IfOk result (λ script. IsWhole script) }
+    ensures whole { IfOk result (λ script. IsWholeScript script) }
+    ensures limits { IfOk result (λ script. IsWithinLimits script) }
     ensures bad { (k : ℕ) → IsErrOf result (ReadRefusal.BadLine k) → script_in text.now ≡ Err k }
     ensures first { (k : ℕ) → IsErrOf result (ReadRefusal.BadLine k) → IsFirstBad (lines_of text.now) k }
 {

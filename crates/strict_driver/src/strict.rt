@@ -1,25 +1,38 @@
 //! The strict driver.
-ghost use Rattle.std.specs.Prelude.{◌≡◌, ◌+◌, ◌++◌, [], ◌∷◌, OnOk, OnErr, None, Some, Err};
+ghost use Rattle.std.specs.Prelude.{◌≡◌, ◌≤◌, ◌<◌, ◌+◌, ◌++◌, [], ◌∷◌, length, OnOk, OnErr, IfSome, None, Some, Err};
+ghost use Rattle.std.specs.Prelude.{◌==◌};
+ghost use Rattle.std.specs.List.{list_any};
+ghost use Rattle.std.specs.List.Sorted.{IsNonDecreasing};
 ghost use Rattle.gl_plain.specs.declared.driver_calls.DriverEntry.{DriverEntry};
+ghost use Rattle.gl_plain.specs.declared.driver_calls.DriverCall.TheVariants as calls;
 ghost use Rattle.gl_plain.specs.Tables.{opening_driver};
-ghost use Rattle.gl_plain.specs.Journal.{IsLegal, IsLegalEntry, state_after};
-ghost use Rattle.gl_plain.specs.Oracle.{default_answers, told};
-ghost use Rattle.gl_driver.specs.History.{Served, Caused};
-ghost use Rattle.strict_driver.specs.StrictHistory.{new_driver, history_of, Continues, answers_left, KeepsCount};
+ghost use Rattle.gl_plain.specs.Allowed.{IsObjectAllowed};
+ghost use Rattle.gl_plain.specs.Journal.{IsLegal, state_after};
+ghost use Rattle.gl_plain.specs.Oracle.{answers_of, stored_at, told};
+ghost use Rattle.gl_driver.specs.History.{Served, Caused, Rose, stored_answer};
+ghost use Rattle.strict_driver.specs.Given.{is_lost_at, next_answer};
+ghost use Rattle.strict_driver.specs.StrictHistory.{new_driver, history_of, Continues, answers_left};
 
+use crate::counts::Counts;
+use crate::tables::Tables;
 use gl_base::GlEnum;
 use gl_driver::{Driver, DriverStop, Stored};
-use gl_plain::{Answer, Bytes, DriverCall, DriverEntry, EntryList, ObjectDriver};
+use gl_plain::{Answer, Answers, Bytes, DriverCall, DriverEntry, EntryList, ObjectDriver, Words};
 use std::alloc::Global;
 use std::marker::Model;
 
-/// A driver in memory. It numbers the names of a name space from 1, and always has room. It is never lost.
+/// A driver in memory. It numbers the names of a name space from 1. Until it is loaded with others, its answers say that there is always
+/// room, and it is never lost.
 #[derive(Drop)]
 pub struct StrictDriver {
     alloc: Global,
+    tables: Tables,
     journal: EntryList,
-    buffer_names: u64,
+    loaded: Answers,
+    counts: Counts,
     stop: Option<DriverStop>,
+    ooms: u64,
+    losses: u64,
 }
 
 impl Model for StrictDriver {
@@ -35,47 +48,51 @@ impl Model for StrictDriver {
 }
 
 impl StrictDriver {
-    /// A driver that was given no call. It takes no memory.
+    /// A driver that was given no call and no answers. It takes no memory.
     pub fn new(alloc: Global) -> StrictDriver
         ensures { result ≡ new_driver }
     {
         StrictDriver {
             alloc,
+            tables: Tables::new(alloc),
             journal: EntryList::new(alloc),
-            buffer_names: 0,
+            loaded: Answers::new(alloc),
+            counts: Counts {
+                buffer_names: 0,
+                asked: 0,
+            },
             stop: None,
+            ooms: 0,
+            losses: 0,
         }
+    }
+
+    /// Sets what it will answer, before its first call. It takes no memory.
+    pub fn load(&mut self, answers: Answers)
+        requires opening { self.old.journal ≡ [] }
+        requires going { self.old.stop ≡ None }
+        ensures rest { self.new ≡ record self.old { loaded = self.new.loaded } }
+        ensures answers { answers_left self.new ≡ answers_of answers }
+        ensures lost { self.new.loaded.lost ≡ answers.lost }
+    {
+        let mut oom = answers.oom.into_vec();
+        oom.sort_unstable();
+        self.loaded = Answers {
+            oom: Words::from_vec(oom),
+            lost: answers.lost,
+        };
     }
 
     /// The calls so far with their answers, in order. Each met its condition in the state that the earlier ones left, and the answers
-    /// are those of a driver that numbers names from 1 and has room.
+    /// are those that were loaded. There are no more of them than are answered before the driver is lost, and as many where it was.
     pub fn journal(&self) -> &[DriverEntry]
         ensures exact { result.now ≡ self.now.journal }
         ensures legal { IsLegal opening_driver self.now.journal }
-        ensures answers { told self.now.journal (answers_left self.now) ≡ default_answers }
+        ensures answers { told self.now.journal (answers_left self.now) ≡ answers_of self.now.loaded }
+        ensures within { IfSome self.now.loaded.lost (λ n. length self.now.journal ≤ n) }
+        ensures lost { self.now.stop ≡ Some DriverStop.Lost → self.now.loaded.lost ≡ Some (length self.now.journal) }
     {
         self.journal.as_slice()
-    }
-
-    /// Enters a call with its answer, after which so many buffer names were given.
-    fn enter(&mut self, entry: DriverEntry, buffer_names: u64) -> Result<(), DriverStop>
-        requires going { self.old.stop ≡ None }
-        requires legal { IsLegalEntry (state_after opening_driver self.old.journal) entry }
-        requires count { KeepsCount self.old.buffer_names entry buffer_names }
-        ensures served { OnOk result (Served history_of Continues self.old self.new (entry ∷ [])) }
-        ensures stopped { OnErr result (Served history_of Continues self.old self.new []) }
-        ensures cause { Caused (history_of self.old) (history_of self.new) result }
-    {
-        match self.journal.push(entry) {
-            Ok(()) => {
-                self.buffer_names = buffer_names;
-                Ok(())
-            }
-            Err(_) => {
-                self.stop = Some(DriverStop::NoMemory);
-                Err(DriverStop::NoMemory)
-            }
-        }
     }
 
     /// Stops for want of memory.
@@ -87,6 +104,103 @@ impl StrictDriver {
         self.stop = Some(DriverStop::NoMemory);
         DriverStop::NoMemory
     }
+
+    /// Whether it is lost at the next call.
+    fn is_lost(&self) -> bool
+        ensures { result ≡ is_lost_at self.now.loaded.lost (length self.now.journal) }
+    {
+        match self.loaded.lost {
+            None => false,
+            Some(calls) => self.journal.len() == calls as usize,
+        }
+    }
+
+    /// Whether the next call may be made: it stopped before, or is lost now, where not.
+    fn ready(&mut self) -> Result<(), DriverStop>
+        ensures ok { OnOk result (self.new ≡ self.old) }
+        ensures going { OnOk result (self.old.stop ≡ None) }
+        ensures within { OnOk result (IfSome self.old.loaded.lost (λ n. length self.old.journal < n)) }
+        ensures served { OnErr result (Served history_of Continues self.old self.new []) }
+        ensures cause { OnErr result (Caused (history_of self.old) (history_of self.new) result) }
+    {
+        if let Some(stop) = self.stop {
+            return Err(stop);
+        }
+        if self.is_lost() {
+            self.losses = self.losses.saturating_add(1);
+            self.stop = Some(DriverStop::Lost);
+            return Err(DriverStop::Lost);
+        }
+        Ok(())
+    }
+
+    /// Whether the next question for room finds some.
+    fn room(&self) -> Stored
+        ensures { result ≡ stored_at self.now.loaded.oom self.now.counts.asked }
+    {
+        if is_among(self.loaded.oom.as_slice(), self.counts.asked) {
+            Stored::Oom
+        } else {
+            Stored::Done
+        }
+    }
+
+    /// Makes a call with its next answer, and enters it in the journal.
+    fn enter(&mut self, call: ObjectDriver, answer: Answer) -> Result<(), DriverStop>
+        requires going { self.old.stop ≡ None }
+        requires within { IfSome self.old.loaded.lost (λ n. length self.old.journal < n) }
+        requires allowed { IsObjectAllowed (state_after opening_driver self.old.journal) call }
+        requires next { answer ≡ next_answer self.old.loaded.oom self.old.counts call }
+        ensures served { OnOk result (Served history_of Continues self.old self.new (record { call = calls.Object call; answer = answer } ∷ [])) }
+        ensures stopped { OnErr result (Served history_of Continues self.old self.new []) }
+        ensures cause { Caused (history_of self.old) (history_of self.new) result }
+        ensures oom { OnOk result (answer ≡ Answer.Oom → Rose self.old.ooms self.new.ooms) }
+    {
+        let Some(counts) = self.counts.after(&call) else {
+            return Err(self.stop());
+        };
+        let Ok(()) = self.tables.apply(&call, &answer) else {
+            return Err(self.stop());
+        };
+        let ooms = ooms_after(self.ooms, &answer);
+        let entry = DriverEntry {
+            call: DriverCall::Object(call),
+            answer,
+        };
+        match self.journal.push(entry) {
+            Err(_) => {
+                self.stop = Some(DriverStop::NoMemory);
+                Err(DriverStop::NoMemory)
+            }
+            Ok(()) => {
+                self.counts = counts;
+                self.ooms = ooms;
+                Ok(())
+            }
+        }
+    }
+}
+
+/// Whether a number is among these, which do not fall.
+fn is_among(sorted: &[u32], number: u64) -> bool
+    requires { IsNonDecreasing sorted.now }
+    ensures { result ≡ list_any (λ n. n == number) sorted.now }
+{
+    match u32::try_from(number) {
+        Ok(number) => sorted.binary_search(&number).is_ok(),
+        Err(_) => false,
+    }
+}
+
+/// How often there was no room after an answer.
+fn ooms_after(ooms: u64, answer: &Answer) -> u64
+    ensures counted { ooms ≤ result }
+    ensures oom { answer.now ≡ Answer.Oom → Rose ooms result }
+{
+    match answer {
+        Answer::Oom => ooms.saturating_add(1),
+        _ => ooms,
+    }
 }
 
 impl Driver for StrictDriver {
@@ -97,32 +211,19 @@ impl Driver for StrictDriver {
     ghost grown = { Continues };
 
     fn gen_buffer(&mut self) -> Result<u64, DriverStop> {
-        if let Some(stop) = self.stop {
-            return Err(stop);
-        }
-        let Some(name) = self.buffer_names.checked_add(1) else {
+        self.ready()?;
+        let Some(name) = self.counts.buffer_names.checked_add(1) else {
             return Err(self.stop());
         };
-        let entry = DriverEntry {
-            call: DriverCall::Object(ObjectDriver::GenBuffer),
-            answer: Answer::Name(name),
-        };
-        match self.enter(entry, name) {
+        match self.enter(ObjectDriver::GenBuffer, Answer::Name(name)) {
             Ok(()) => Ok(name),
             Err(stop) => Err(stop),
         }
     }
 
     fn bind_buffer(&mut self, target: GlEnum, name: u64) -> Result<(), DriverStop> {
-        if let Some(stop) = self.stop {
-            return Err(stop);
-        }
-        let entry = DriverEntry {
-            call: DriverCall::Object(ObjectDriver::BindBuffer { target, name }),
-            answer: Answer::Done,
-        };
-        let names = self.buffer_names;
-        self.enter(entry, names)
+        self.ready()?;
+        self.enter(ObjectDriver::BindBuffer { target, name }, Answer::Done)
     }
 
     fn buffer_data(
@@ -131,28 +232,87 @@ impl Driver for StrictDriver {
         bytes: &[u8],
         usage: GlEnum,
     ) -> Result<Stored, DriverStop> {
-        if let Some(stop) = self.stop {
-            return Err(stop);
-        }
+        self.ready()?;
         let Ok(bytes) = Bytes::from_slice(self.alloc, bytes) else {
             return Err(self.stop());
         };
-        let entry = DriverEntry {
-            call: DriverCall::Object(ObjectDriver::BufferData {
-                target,
-                bytes,
-                usage,
-            }),
-            answer: Answer::Done,
+        let room = self.room();
+        let call = ObjectDriver::BufferData {
+            target,
+            bytes,
+            usage,
         };
-        let names = self.buffer_names;
-        match self.enter(entry, names) {
-            Ok(()) => Ok(Stored::Done),
+        match self.enter(call, stored_answer(room)) {
+            Ok(()) => Ok(room),
             Err(stop) => Err(stop),
         }
+    }
+
+    fn buffer_sub_data(
+        &mut self,
+        target: GlEnum,
+        offset: i32,
+        bytes: &[u8],
+    ) -> Result<(), DriverStop> {
+        self.ready()?;
+        let Ok(bytes) = Bytes::from_slice(self.alloc, bytes) else {
+            return Err(self.stop());
+        };
+        let call = ObjectDriver::BufferSubData {
+            target,
+            offset,
+            bytes,
+        };
+        self.enter(call, Answer::Done)
+    }
+
+    fn delete_buffer(&mut self, name: u64) -> Result<(), DriverStop> {
+        self.ready()?;
+        self.enter(ObjectDriver::DeleteBuffer { name }, Answer::Done)
+    }
+
+    fn vertex_attrib_4(&mut self, index: u32, values: [u32; 4]) -> Result<(), DriverStop> {
+        self.ready()?;
+        self.enter(ObjectDriver::VertexAttrib4 { index, values }, Answer::Done)
+    }
+
+    fn vertex_attrib_pointer(
+        &mut self,
+        index: u32,
+        size: i32,
+        kind: GlEnum,
+        normalized: bool,
+        stride: i32,
+        offset: u32,
+    ) -> Result<(), DriverStop> {
+        self.ready()?;
+        let call = ObjectDriver::VertexAttribPointer {
+            index,
+            size,
+            kind,
+            normalized,
+            stride,
+            offset,
+        };
+        self.enter(call, Answer::Done)
+    }
+
+    fn set_array(&mut self, index: u32, on: bool) -> Result<(), DriverStop> {
+        self.ready()?;
+        self.enter(ObjectDriver::SetArray { index, on }, Answer::Done)
     }
 
     ghost grown_itself = { continues_itself };
 
     ghost grown_further = { continues_further };
+}
+
+/// The answer of a call that asks for room.
+fn stored_answer(room: Stored) -> Answer
+    ensures { result ≡ stored_answer room }
+{
+    match room {
+        Stored::Done => Answer::Done,
+        Stored::Oom => Answer::Oom,
+    }
 }

@@ -1,7 +1,7 @@
 -- GetBucketData has five words.
 use Rattle.std.proofs.Common.{◌≡◌, ℕ, List, length, subst}
-use Rattle.cb_format.specs.Layouts.{layout_of}
-use Rattle.cb_format.specs.Plans.{IsLaidOut}
+use Rattle.gl_plain.specs.Layouts.{layout_of}
+use Rattle.gl_plain.specs.Plans.{IsLaidOut}
 use Rattle.cb_format.proofs.ranges.plan.Goals as goal
 
 bucket_words : (number : ℕ) (words : List ℕ) → IsLaidOut number words → number ≡ 5 → length words ≡ 5

@@ -1,20 +1,15 @@
-use Rattle.std.proofs.Common.{◌≡◌, ◌<◌, ◌-◌, ◌++◌, List}
-use Rattle.gl_plain.specs.declared.calls.Reply.{Reply}
-use Rattle.gl_plain.specs.declared.driver_calls.DriverEntry.{DriverEntry}
-use Rattle.gl_plain.specs.Ring.{seen_from}
-use Rattle.gl_plain.specs.Agreement.{Agrees}
-use Rattle.gl_driver.specs.History.{Served}
-use Rattle.decoder_core.specs.Decoded.{state_of}
-use Rattle.decoder_core.proofs.SoFar.{SoFar}
+use Rattle.decoder_core.specs.StepContract.{left_to_do}
+use Rattle.decoder_core.proofs.Joins.{SoFar}
 use Rattle.decoder_core.proofs.serving.serve.Given as goal
 
-abbrev pub invariant-turns : goal.invariant-turns
-invariant-turns g l =
+abbrev pub invariant-steps : goal.invariant-steps
+invariant-steps g l =
     let driver = g.D.Driver in
+    let shm = g.S.Shm in
     record {
-      inside : l.get < l.entries;
-      agrees : Agrees (state_of l.decoder).es (driver.history l.driver).state;
-      so_far : (answered : List Reply) × (entered : List DriverEntry) × (l.replies ≡ l.fn.replies ++ answered)
-          × Served driver.history driver.grown l.fn.driver l.driver entered
-          × SoFar (state_of l.fn.decoder) (driver.history l.fn.driver).state (seen_from l.ring l.entries l.put l.entries 0) (state_of l.decoder) (driver.history l.driver).state (seen_from l.ring l.entries l.put (l.entries - l.counter) l.get) answered entered;
+      so_far : SoFar driver.history driver.grown l.fn.service (shm.memory l.fn.shm) l.fn.driver l.fn.replies l.service (shm.memory l.shm) l.driver l.replies;
+      grows : shm.grown l.fn.shm l.shm;
     }
+
+abbrev pub decreases-steps : goal.decreases-steps
+decreases-steps g l = left_to_do l.service

@@ -1,6 +1,6 @@
 use Rattle.std.proofs.Common.{length, map, ◌∷◌, []}
 use Rattle.std.proofs.lemmas.List.{map-append}
-use Rattle.cb_shm.specs.Memory.{IsInside}
+use Rattle.gl_plain.specs.Regions.{IsInside}
 use Rattle.cb_shm.specs.PlainView.{plain_size, patch_of}
 use Rattle.cb_shm.proofs.Writes.{ArePatched-written, inside_too}
 use Rattle.cb_shm.proofs.plain.PlainMemoryShm.put.Goals as goal

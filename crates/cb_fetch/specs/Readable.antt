@@ -1,0 +1,24 @@
+-- Commands that were read whole.
+use Rattle.std.specs.Prelude.{◌≡◌, length, Some}
+use Rattle.gl_plain.specs.declared.commands.Layout.{Layout}
+use Rattle.gl_plain.specs.declared.commands.Fetched.{Fetched}
+use Rattle.gl_plain.specs.Layouts.{built_layout}
+use Rattle.gl_plain.specs.Plans.{plan_of, data_count}
+use Rattle.cb_fetch.specs.declared.outcome.FetchOutcome.{FetchOutcome}
+use Rattle.cb_fetch.specs.declared.outcome.FetchOutcome.TheVariants.{Copied, Ready, Idle, Bad, NoMemory}
+
+-- the number is that of a command that is built, the words are as many as its layout says, none of a Noop, and the data is as long as
+-- its plan reads
+pub record IsReadable (f : Fetched) : Type 0 where
+  pub layout : Layout
+  pub known : built_layout f.number ≡ Some layout
+  pub words : length f.words.items ≡ layout.words
+  pub payload : length f.payload ≡ data_count (plan_of f.number f.words.items)
+
+-- a command that an outcome brings is one
+abbrev pub BringsReadable : FetchOutcome → Type 0
+BringsReadable Copied = Unit {0}
+BringsReadable (Ready command) = IsReadable command
+BringsReadable Idle = Unit {0}
+BringsReadable (Bad kind place) = Unit {0}
+BringsReadable NoMemory = Unit {0}

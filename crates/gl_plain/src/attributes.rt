@@ -1,0 +1,126 @@
+//! The vertex attributes (OpenGL ES 2.0.25, sections 2.7 and 2.8).
+ghost use Rattle.std.specs.Prelude.{◌≡◌, ◌≤◌};
+ghost use Rattle.gl_plain.specs.Tables.{no_arrays};
+ghost use Rattle.gl_plain.specs.AttribEffect.{attribute, unread, with_array, with_constant, with_enabled, without_object};
+
+use gl_base::GlEnum;
+
+const FLOAT: GlEnum = GlEnum(0x1406);
+
+/// How the array of a vertex attribute is read (OpenGL ES 2.0.25, section 2.8).
+#[derive(Clone, Copy, Debug, PartialEq, Eq)]
+pub struct ArraySpec {
+    /// The number of the buffer that it lies in, if it lies in one.
+    pub object: Option<u64>,
+    /// How many numbers an element has, 1 to 4.
+    pub size: u32,
+    /// What kind of number they are.
+    pub kind: GlEnum,
+    /// Whether integers stand for fractions of their greatest value.
+    pub normalized: bool,
+    /// How many bytes lie from one element to the next, or 0 where they lie one behind the other.
+    pub stride: u32,
+    /// The byte at which the first element begins.
+    pub offset: u32,
+}
+
+/// A vertex attribute (OpenGL ES 2.0.25, sections 2.7 and 2.8).
+#[derive(Clone, Copy, Debug, PartialEq, Eq)]
+pub struct VertexAttribute {
+    /// Whether its values are those of the array.
+    pub enabled: bool,
+    pub array: ArraySpec,
+    /// Its value where the array is not enabled, as four float patterns.
+    pub constant: [u32; 4],
+}
+
+impl VertexAttribute {
+    /// The attribute with its array in no buffer, where it lay in the one of this number.
+    fn outside(self, object: u64) -> VertexAttribute
+        ensures { result ≡ unread object self }
+    {
+        if self.array.object != Some(object) {
+            return self;
+        }
+        VertexAttribute {
+            array: ArraySpec {
+                object: None,
+                ..self.array
+            },
+            ..self
+        }
+    }
+}
+
+/// An attribute at the opening (sections 2.7 and 2.8).
+const OPENING: VertexAttribute = VertexAttribute {
+    enabled: false,
+    array: ArraySpec {
+        object: None,
+        size: 4,
+        kind: FLOAT,
+        normalized: false,
+        stride: 0,
+        offset: 0,
+    },
+    constant: [0, 0, 0, 0x3F80_0000],
+};
+
+/// The sixteen vertex attributes, by their index.
+#[derive(Clone, Copy, Debug, PartialEq, Eq)]
+pub struct VertexAttributes {
+    attributes: [VertexAttribute; 16],
+}
+
+impl VertexAttributes {
+    /// The opening values: no array is enabled.
+    pub fn new() -> VertexAttributes
+        ensures { result ≡ no_arrays }
+    {
+        VertexAttributes {
+            attributes: [OPENING; 16],
+        }
+    }
+
+    /// The attribute of an index.
+    pub fn get(&self, index: u32) -> VertexAttribute
+        requires { index ≤ 15 }
+        ensures { result ≡ attribute self.now index }
+    {
+        self.attributes[index as usize]
+    }
+
+    /// Enables the array of an index, or disables it.
+    pub fn set_enabled(&mut self, index: u32, on: bool)
+        requires { index ≤ 15 }
+        ensures { self.new ≡ with_enabled self.old index on }
+    {
+        self.attributes[index as usize].enabled = on;
+    }
+
+    /// Sets the constant value of an index, as four float patterns.
+    pub fn set_constant(&mut self, index: u32, values: [u32; 4])
+        requires { index ≤ 15 }
+        ensures { self.new ≡ with_constant self.old index values }
+    {
+        self.attributes[index as usize].constant = values;
+    }
+
+    /// Sets the array of an index.
+    pub fn set_array(&mut self, index: u32, array: ArraySpec)
+        requires { index ≤ 15 }
+        ensures { self.new ≡ with_array self.old index array }
+    {
+        self.attributes[index as usize].array = array;
+    }
+
+    /// Leaves no array in the buffer of this number.
+    #[tactic(auto, using(std::proofs::lemmas::List::Edits::map_over_more))]
+    pub fn unbind_buffer(&mut self, object: u64)
+        ensures { self.new ≡ without_object self.old object }
+    {
+        for index in 0..self.attributes.len() {
+            self.attributes[index] = self.attributes[index].outside(object);
+        }
+    }
+}

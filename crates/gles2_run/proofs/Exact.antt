@@ -1,0 +1,56 @@
+-- When each status comes, where the source tells what it has.
+use Rattle.std.proofs.Common.{rules, ◌≡◌, ℕ, ◌<◌, ◌≤◌, ◌⊎◌, List, [], ◌++◌, Option, None, Some, Ok, Err, append-nil, length-append, length, arith, ap}
+use Rattle.std.specs.Option.{unwrap_or}
+use Rattle.std.specs.Io.KnownBytes.{Consumes}
+use Rattle.gl_plain.specs.declared.commands.Stop.{Stop}
+use Rattle.cb_shm.specs.declared.script.Script.{Script}
+use Rattle.ring_script.specs.Script.{script_in}
+use Rattle.report_text.specs.declared.end.End.{End}
+use Rattle.report_text.specs.declared.end.End.TheVariants as ends
+use Rattle.report_text.specs.Ends.{status_of}
+use Rattle.gles2_run.specs.declared.desk.Desk.{Desk}
+use Rattle.gles2_run.specs.Ends.{INPUT_LIMIT, IsInput, IsToldRing, Means, Closes, UnlessCut, UnlessLost, ring_run}
+
+-- what was read whole is what the source told
+same_input : {ended : Type 0} (words : List (List ℕ)) (before now : Option (List ℕ)) (was is : ℕ) (told read : List ℕ) → IsToldRing words before was is told → IsInput before now ended read → read ≡ told
+same_input words before now was is told read t r = search rules
+
+-- what was read is no longer than what the source told
+no_longer : (before now : Option (List ℕ)) (told read : List ℕ) → before ≡ Some told → Consumes before now read → length read ≤ length told
+no_longer None now told read e c = cc
+no_longer (Some xs) None told read e c = absurd c
+no_longer (Some xs) (Some ys) told read e c =
+    let same : xs ≡ told = ap (λ (o : Option (List ℕ)). unwrap_or o []) e in
+    omega (arith, ap length c, ap length same, length-append read ys)
+
+module _ (words : List (List ℕ)) (before now : Option (List ℕ)) (ended : Type 0) (was is : ℕ) (desk : Desk) (status : ℕ) (held holds : Option (List ℕ)) (wrote writes : ℕ)
+    (input : List ℕ) (told : IsToldRing words before was is input) (short : length input ≤ INPUT_LIMIT) where
+  pub is_done : (end : End) (script : Script) → Means end words before now ended was is desk → Closes end desk status held holds wrote writes → script_in input ≡ Ok script → (ring_run script).stop ≡ None → UnlessLost (status ≡ 0) status
+  is_done ends.Done script means closes text stop = search rules
+  is_done ends.Usage script means closes text stop = search rules
+  is_done ends.ReadFault script means closes text stop = search rules
+  is_done ends.TooLong script means closes text stop = absurd (omega (arith, short, means.1.2, no_longer before now input means.1.0 told.told means.1.1))
+  is_done (ends.BadLine number) script means closes text stop = search rules
+  is_done (ends.Stopped at) script means closes text stop = search rules
+  is_done ends.Lost script means closes text stop = search rules
+  is_done ends.NoMemory script means closes text stop = search rules
+
+  pub is_bad_line : (end : End) (number : ℕ) → Means end words before now ended was is desk → Closes end desk status held holds wrote writes → script_in input ≡ Err number → UnlessCut (status ≡ 3) status
+  is_bad_line ends.TooLong number means closes text = absurd (omega (arith, short, means.1.2, no_longer before now input means.1.0 told.told means.1.1))
+  is_bad_line ends.Done number means closes text = search rules
+  is_bad_line ends.Usage number means closes text = search rules
+  is_bad_line ends.ReadFault number means closes text = search rules
+  is_bad_line (ends.BadLine n) number means closes text = search rules
+  is_bad_line (ends.Stopped at) number means closes text = search rules
+  is_bad_line ends.Lost number means closes text = search rules
+  is_bad_line ends.NoMemory number means closes text = search rules
+
+  pub is_stopped : (end : End) (script : Script) (stop : Stop) → Means end words before now ended was is desk → Closes end desk status held holds wrote writes → script_in input ≡ Ok script → (ring_run script).stop ≡ Some stop → UnlessLost (status ≡ 6) status
+  is_stopped ends.TooLong script stop means closes text stopped = absurd (omega (arith, short, means.1.2, no_longer before now input means.1.0 told.told means.1.1))
+  is_stopped ends.Done script stop means closes text stopped = search rules
+  is_stopped ends.Usage script stop means closes text stopped = search rules
+  is_stopped ends.ReadFault script stop means closes text stopped = search rules
+  is_stopped (ends.BadLine n) script stop means closes text stopped = search rules
+  is_stopped (ends.Stopped at) script stop means closes text stopped = search rules
+  is_stopped ends.Lost script stop means closes text stopped = search rules
+  is_stopped ends.NoMemory script stop means closes text stopped = search rules

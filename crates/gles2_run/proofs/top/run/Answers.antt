@@ -1,0 +1,21 @@
+use Rattle.std.specs.Prelude.{map, string_bytes}
+use Rattle.gles2_run.proofs.Exact.{is_done, is_bad_line, is_stopped}
+use Rattle.gles2_run.proofs.top.run.Goals as goal
+
+pub returns-clause-done_exact : goal.returns-clause-done_exact
+returns-clause-done_exact g c = λ input script told short text stop.
+    is_done (map string_bytes c.args.words.now) (g.I.Source.left c.args.source.now) (g.I.Source.left c.work-end.new.source) (g.I.Source.ended c.work-end.new.source) (g.I.Source.faults c.args.source.now) (g.I.Source.faults c.work-end.new.source)
+    c.work-end.new.desk c.close-status.result (g.O.Sink.held c.args.sink.now) (g.O.Sink.held c.close-status.new.sink) (g.O.Sink.faults c.args.sink.now) (g.O.Sink.faults c.close-status.new.sink)
+    input told short c.work-end.result script c.work-end.ensures c.close-status.ensures.closes text stop
+
+pub returns-clause-bad_line_exact : goal.returns-clause-bad_line_exact
+returns-clause-bad_line_exact g c = λ input number told short text.
+    is_bad_line (map string_bytes c.args.words.now) (g.I.Source.left c.args.source.now) (g.I.Source.left c.work-end.new.source) (g.I.Source.ended c.work-end.new.source) (g.I.Source.faults c.args.source.now) (g.I.Source.faults c.work-end.new.source)
+    c.work-end.new.desk c.close-status.result (g.O.Sink.held c.args.sink.now) (g.O.Sink.held c.close-status.new.sink) (g.O.Sink.faults c.args.sink.now) (g.O.Sink.faults c.close-status.new.sink)
+    input told short c.work-end.result number c.work-end.ensures c.close-status.ensures.closes text
+
+pub returns-clause-stopped_exact : goal.returns-clause-stopped_exact
+returns-clause-stopped_exact g c = λ input script stop told short text stopped.
+    is_stopped (map string_bytes c.args.words.now) (g.I.Source.left c.args.source.now) (g.I.Source.left c.work-end.new.source) (g.I.Source.ended c.work-end.new.source) (g.I.Source.faults c.args.source.now) (g.I.Source.faults c.work-end.new.source)
+    c.work-end.new.desk c.close-status.result (g.O.Sink.held c.args.sink.now) (g.O.Sink.held c.close-status.new.sink) (g.O.Sink.faults c.args.sink.now) (g.O.Sink.faults c.close-status.new.sink)
+    input told short c.work-end.result script stop c.work-end.ensures c.close-status.ensures.closes text stopped
