@@ -21,7 +21,8 @@ import os, shutil, struct, subprocess, sys, tempfile, time
 PROGRAM = sys.argv[1]
 RUNS = 5
 ENTRIES = 1048576
-NOOP, GEN_BUFFERS, BIND_BUFFER, BUFFER_DATA = 0, 257, 258, 259
+DATA_LIMIT = 67108864
+NOOP, GEN_BUFFERS, BIND_BUFFER, BUFFER_DATA, BUFFER_SUB_DATA, DELETE_BUFFERS, GET_ERROR = 0, 257, 258, 259, 260, 261, 327
 ARRAY_BUFFER, STATIC_DRAW = 0x8892, 0x88E4
 
 
@@ -29,9 +30,9 @@ def command(number, *words):
     return struct.pack(f"<{1 + len(words)}I", number << 21 | 1 + len(words), *words)
 
 
-def script(ring):
-    """A ring in one line of bytes, and put behind its last command."""
-    return f"ring {ENTRIES}\nbytes 0 0 {ring.hex()}\nput {len(ring) // 4}\n".encode()
+def script(ring, lines=""):
+    """A ring in one line of bytes, some lines before it, and put behind its last command."""
+    return f"ring {ENTRIES}\n{lines}bytes 0 0 {ring.hex()}\nput {len(ring) // 4}\n".encode()
 
 
 # Each maker gives a script, how many commands it has, and how many lines the program prints.
@@ -42,6 +43,23 @@ def noops(n):
 
 def new_names(n):
     return script(b"".join(command(GEN_BUFFERS, id + 1) for id in range(n))), n, n + 1
+
+
+def names_come_and_go(n):
+    ids = range(1, n // 2 + 1)
+    ring = b"".join(command(GEN_BUFFERS, id) for id in ids) + b"".join(command(DELETE_BUFFERS, id) for id in ids)
+    return script(ring), n, n + 1
+
+
+def parts(n):
+    """Rounds of 100,000 commands on 1,000 buffers of 16 bytes: each is bound and stored, and then 49 times bound and changed."""
+    first = range(1, 1001)
+    binds = [command(BIND_BUFFER, ARRAY_BUFFER, id) for id in first]
+    ring = b"".join(bind + command(BUFFER_DATA, ARRAY_BUFFER, 16, STATIC_DRAW, 0, 0, 0, 0) for bind in binds)
+    ring += b"".join(bind + command(BUFFER_SUB_DATA, ARRAY_BUFFER, 0, 16, 1, 16, 1, 0) for bind in binds) * 49
+    entries = len(ring) // 4
+    text = f"ring {entries}\nregion 1 16\nbytes 1 0 {'7f' * 16}\nbytes 0 0 {ring.hex()}\n"
+    return (text + f"put {entries // 50}\nput 0\n" * (n // 100000)).encode(), n, n + 1001
 
 
 def buffer_data(n):
@@ -70,11 +88,69 @@ def uploads(n):
     return script(ring), n // 65536 + 2, n // 65536 + 3
 
 
+def fetched(size, n):
+    """BufferData of so many bytes of region 1, n times."""
+    ring = command(GEN_BUFFERS, 1) + command(BIND_BUFFER, ARRAY_BUFFER, 1)
+    ring += command(BUFFER_DATA, ARRAY_BUFFER, size, STATIC_DRAW, 1, size, 1, 0) * n
+    return script(ring, f"region 1 {size}\nbytes 1 0 {'7f' * 64}\n"), n + 2, n + 3
+
+
+def small_fetched(n):
+    return fetched(64, n)
+
+
+def large_fetched(n):
+    return fetched(DATA_LIMIT, n)
+
+
+def get_errors(n):
+    """A reply of 8 bytes into region 1, n times."""
+    return script(command(GET_ERROR, 1, 0) * n, "region 1 8\n"), n, n + 1
+
+
+def rounds(entries, n):
+    """n Noops in a ring of so many entries, with a put for each time that it is filled."""
+    step = entries - 1
+    puts = "".join(f"put {end % entries}\n" for end in [*range(step, n, step), n])
+    return f"ring {entries}\nbytes 0 0 {(command(NOOP) * entries).hex()}\n{puts}".encode(), n, 1
+
+
+def large_rounds(n):
+    return rounds(1025, n)
+
+
+def small_rounds(n):
+    return rounds(2, n)
+
+
+def overwrites(copy, n):
+    """A ring of zeros, where each Noop is written before the copy of a number that depends on its place."""
+    text = "".join(f"at {copy(k)} 0 {4 * k} 01000000\n" for k in range(n))
+    return f"ring {ENTRIES}\n{text}put {n}\n".encode(), n, 1
+
+
+def overwrites_in_turn(n):
+    return overwrites(lambda k: k, n)
+
+
+def overwrites_at_once(n):
+    return overwrites(lambda k: 0, n)
+
+
 ROWS = [
     ("Noops in one line", noops, 500000),
     ("GenBuffers", new_names, 32000),
+    ("GenBuffers, DeleteBuffers", names_come_and_go, 65536),
     ("BindBuffer, BufferData of 16 bytes", buffer_data, 90000),
+    ("BindBuffer, BufferSubData of 16 bytes", parts, 500000),
     ("BufferData of 65,536 bytes", uploads, 1 << 27),
+    ("BufferData of 64 bytes of a region", small_fetched, 65000),
+    ("BufferData of 64 MiB of a region", large_fetched, 1),
+    ("GetError", get_errors, 170000),
+    ("Noops, a put for each 1,024", large_rounds, 500000),
+    ("Noops, a put for each", small_rounds, 500000),
+    ("Noops, each before its own copy", overwrites_in_turn, 500000),
+    ("Noops, all before the first copy", overwrites_at_once, 500000),
     ("one comment", comment, 33000000),
     ("Noops in a line each", lines, 500000),
 ]
@@ -114,7 +190,7 @@ def measured(text, printed):
     return min(seconds), min(cpu), max(peaks)
 
 
-print(f"{'script':36}{'commands':>10}{'input bytes':>13}{'seconds':>9}{'cpu':>8}{'commands/s':>12}{'MB/s':>8}{'peak MiB':>10}{'twice':>7}")
+print(f"{'script':38}{'commands':>10}{'input bytes':>13}{'seconds':>9}{'cpu':>8}{'commands/s':>12}{'MB/s':>8}{'peak MiB':>10}{'twice':>7}")
 for name, maker, n in ROWS:
     before = None
     for size in (n, 2 * n):
@@ -123,7 +199,7 @@ for name, maker, n in ROWS:
         rate = f"{commands / seconds:12,.0f}" if commands else f"{'-':>12}"
         speed = len(text) / seconds / 1e6
         twice = f"{cpu / before:7.2f}" if before else ""
-        print(f"{name:36}{commands:10,}{len(text):13,}{seconds:9.3f}{cpu:8.3f}{rate}{speed:8.1f}{peak / 1024:10.1f}{twice}", flush=True)
+        print(f"{name:38}{commands:10,}{len(text):13,}{seconds:9.3f}{cpu:8.3f}{rate}{speed:8.1f}{peak / 1024:10.1f}{twice}", flush=True)
         before = cpu
 print("twice: the processor's time at twice the size over that at the size")
 PYTHON

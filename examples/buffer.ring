@@ -14,7 +14,7 @@ bytes 0 0 0200202001000000
 bytes 0 8 030040209288000001000000
 
 # Entry 5, at byte 20: BufferData 259 for ARRAY_BUFFER, 16 bytes, STATIC_DRAW 0x88E4.
-# The last four words are zero: no data comes along, and the buffer has zeros.
+# The last four words are zero: the command has no data, and the buffer has zeros.
 bytes 0 20 080060209288000010000000e488000000000000000000000000000000000000
 
 # The client publishes put: the commands stand before entry 13.

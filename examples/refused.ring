@@ -24,7 +24,7 @@ bytes 0 96 080060209288000001000004e488000000000000000000000000000000000000
 bytes 0 128 080060209288000004000000e888000000000000000000000000000000000000
 put 40
 
-# It prints, with status 0 (the codes are kept, but no command that is built yet reads them):
+# It prints, with status 0 (the codes are kept, and no command of this script reads them):
 #   driver 0 gen_buffer -> 1
 #   driver 1 bind_buffer 0x8892 1
 #   driver 2 buffer_data 0x8892 4:00000000 0x88E8
