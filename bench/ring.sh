@@ -88,19 +88,23 @@ def uploads(n):
     return script(ring), n // 65536 + 2, n // 65536 + 3
 
 
-def fetched(size, n):
-    """BufferData of so many bytes of region 1, n times."""
+def fetched(target, size, n):
+    """BufferData of so many bytes of region 1, n times: refused where its target is none, when its data was fetched."""
     ring = command(GEN_BUFFERS, 1) + command(BIND_BUFFER, ARRAY_BUFFER, 1)
-    ring += command(BUFFER_DATA, ARRAY_BUFFER, size, STATIC_DRAW, 1, size, 1, 0) * n
-    return script(ring, f"region 1 {size}\nbytes 1 0 {'7f' * 64}\n"), n + 2, n + 3
+    ring += command(BUFFER_DATA, target, size, STATIC_DRAW, 1, size, 1, 0) * n
+    return script(ring, f"region 1 {size}\nbytes 1 0 {'7f' * 64}\n"), n + 2, 3 + (n if target else 0)
 
 
 def small_fetched(n):
-    return fetched(64, n)
+    return fetched(ARRAY_BUFFER, 64, n)
 
 
 def large_fetched(n):
-    return fetched(DATA_LIMIT, n)
+    return fetched(ARRAY_BUFFER, DATA_LIMIT, n)
+
+
+def large_refused(n):
+    return fetched(0, DATA_LIMIT, n)
 
 
 def get_errors(n):
@@ -146,6 +150,7 @@ ROWS = [
     ("BufferData of 65,536 bytes", uploads, 1 << 27),
     ("BufferData of 64 bytes of a region", small_fetched, 65000),
     ("BufferData of 64 MiB of a region", large_fetched, 1),
+    ("the same, refused when it was fetched", large_refused, 4),
     ("GetError", get_errors, 170000),
     ("Noops, a put for each 1,024", large_rounds, 500000),
     ("Noops, a put for each", small_rounds, 500000),
