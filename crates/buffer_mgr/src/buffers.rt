@@ -19,8 +19,6 @@ const ARRAY_BUFFER: GlEnum = GlEnum(0x8892);
 
 const ELEMENT_ARRAY_BUFFER: GlEnum = GlEnum(0x8893);
 
-const STATIC_DRAW: GlEnum = GlEnum(0x88E4);
-
 /// The buffers of the service: the client's names, the objects by number, and the numbers that the two targets bind, 0 for none.
 #[derive(Drop)]
 pub struct Buffers {
@@ -142,11 +140,8 @@ impl Buffers {
     {
         let number = name.number;
         if !name.is_object {
-            let empty = Buffer {
-                bytes: Bytes::new(self.alloc),
-                usage: STATIC_DRAW,
-            };
-            if self.objects.insert(number, empty).is_err() {
+            let opening = Buffer::new(self.alloc);
+            if self.objects.insert(number, opening).is_err() {
                 return Err(AllocError);
             }
             let made = Name {
@@ -159,25 +154,14 @@ impl Buffers {
         Ok(())
     }
 
-    /// Puts a buffer in place of the one that the target binds. It takes no memory.
-    pub fn store(&mut self, target: GlEnum, buffer: Buffer)
+    /// Puts bytes and a usage in place of those of the buffer that the target binds. It takes no memory.
+    pub fn store(&mut self, target: GlEnum, bytes: Bytes, usage: GlEnum)
         requires { IsSome (plain.bound (tables self.old) target) }
-        ensures { tables self.new ≡ stored (tables self.old) target buffer }
+        ensures { tables self.new ≡ stored (tables self.old) target (record { bytes = bytes; usage = usage }) }
     {
         let number = self.binding(target);
-        self.objects.replace(number, buffer);
-    }
-
-    /// Whether the target binds a buffer that has so many bytes from an offset on.
-    fn has_range(&self, target: GlEnum, offset: u32, count: usize) -> bool
-        ensures { result ≡ is_none (range_refusal (plain.bound (tables self.now) target) offset count) }
-    {
-        match self.bound(target) {
-            Some(buffer) => {
-                let len = buffer.bytes.len();
-                offset as usize <= len && count <= len - offset as usize
-            }
-            None => false,
+        if let Some(buffer) = self.objects.get_mut(number) {
+            buffer.store(bytes, usage);
         }
     }
 
@@ -188,14 +172,11 @@ impl Buffers {
         ensures done { OnTrue result (tables self.new ≡ changed (tables self.old) target offset bytes.now) }
         ensures refused { OnFalse result (tables self.new ≡ tables self.old) }
     {
-        if !self.has_range(target, offset, bytes.len()) {
-            return false;
-        }
         let number = self.binding(target);
-        if let Some(buffer) = self.objects.get_mut(number) {
-            buffer.bytes.overwrite(offset as usize, bytes);
+        match self.objects.get_mut(number) {
+            Some(buffer) => buffer.change(offset, bytes),
+            None => false,
         }
-        true
     }
 
     /// Deletes a name with its object, and nothing binds that from then on. A name that is not in use changes nothing. It takes no

@@ -4,6 +4,7 @@
 mod buffers;
 
 pub use buffers::{Buffers, is_buffer_target};
+pub use gl_plain::Buffer;
 
 #[cfg(test)]
 mod tests;

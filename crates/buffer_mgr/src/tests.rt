@@ -1,7 +1,7 @@
 //! The life of a buffer, each call on its happy path.
 use crate::{Buffers, is_buffer_target};
 use gl_base::GlEnum;
-use gl_plain::{Buffer, Bytes};
+use gl_plain::Bytes;
 use std::test::*;
 
 #[test]
@@ -14,12 +14,9 @@ fn a_buffer_is_bound_changed_and_deleted(rt: HostRuntime) -> Result<(), Fail> {
         buffers.bind(target, 7, name)?;
     }
     assert_eq!(rt; buffers.array_object(), Some(1));
-    let buffer = Buffer {
-        bytes: Bytes::zeros(rt.alloc(), 4)?,
-        usage: GlEnum(0x88E4),
-    };
+    let bytes = Bytes::zeros(rt.alloc(), 4)?;
     if buffers.bound(target).is_some() {
-        buffers.store(target, buffer);
+        buffers.store(target, bytes, GlEnum(0x88E4));
     }
     assert!(rt; buffers.change(target, 2, b"ab"));
     assert!(rt; !buffers.change(target, 3, b"ab"));

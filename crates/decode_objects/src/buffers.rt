@@ -17,7 +17,7 @@ use attrib_mgr::Attribs;
 use buffer_mgr::Buffers;
 use gl_base::GlEnum;
 use gl_driver::{Driver, Stored};
-use gl_plain::{Buffer, Bytes, DataWords, Errors, ExecStop, GlError, Malformed, Name, Reply};
+use gl_plain::{Bytes, DataWords, Errors, ExecStop, GlError, Malformed, Name, Reply};
 use std::alloc::{AllocError, Global};
 
 /// GenBuffers, for one id that the client gives: it comes into use with a new name of the driver's. An id that may not be given, or is
@@ -185,7 +185,7 @@ pub fn buffer_data<D: Driver>(
     let bytes = data_bytes(alloc, words, payload, size)?;
     match driver.buffer_data(target, bytes.as_slice(), usage)? {
         Stored::Oom => errors.note(GlError::OutOfMemory),
-        Stored::Done => buffers.store(target, Buffer { bytes, usage }),
+        Stored::Done => buffers.store(target, bytes, usage),
     }
     Ok(Reply::None)
 }

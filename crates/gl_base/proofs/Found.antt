@@ -2,7 +2,7 @@
 use Rattle.std.proofs.Common.{◌≡◌, ◌≢◌, ◌⊎◌, inl, inr, ℕ, Bool, true, false, cond, refl, sym, ◌∙◌, ap, None, Some, ◌||◌}
 use Rattle.std.specs.Ordering.{nat_cmp, eq_by_cmp}
 use Rattle.std.specs.Cmp.{nat_cmp_total, eq_by_cmp_equiv}
-use Rattle.std.specs.FinMap.{FinMap, get, insert, remove, get-insert, get-remove}
+use Rattle.std.specs.FinMap.{FinMap, get, insert, remove, get-insert, get-remove, same_map, nat_cmp-IsAntisymmetric}
 use Rattle.std.specs.FinSet as set
 use Rattle.gl_base.proofs.Maps.{same_key}
 
@@ -34,6 +34,13 @@ module _ {X : Type 0} (m : FinMap nat_cmp X) (k : ℕ) where
     | inl p ↦ inl (p.0, some_injective v x (sym (get-insert_here v) ∙ ap (get (insert m k v)) (sym p.0) ∙ e))
     | inr p ↦ inr (p.0, sym (get-insert_other v q p.0) ∙ e)
   ]
+
+  -- a key that is given the value that it has
+  pub insert-same : (v : X) → get m k ≡ Some v → insert m k v ≡ m
+  insert-same v has = same_map nat_cmp_total nat_cmp-IsAntisymmetric (insert m k v) m (λ q. elim (test q k) [
+    | inl p ↦ ap (get (insert m k v)) p.0 ∙ get-insert_here v ∙ sym has ∙ sym (ap (get m) p.0)
+    | inr p ↦ get-insert_other v q p.0
+  ])
 
   -- the key that was removed has no value
   pub get-remove_here : get (remove m k) k ≡ None

@@ -19,8 +19,6 @@ use std::alloc::{AllocError, Global};
 
 const ARRAY_BUFFER: GlEnum = GlEnum(0x8892);
 
-const STATIC_DRAW: GlEnum = GlEnum(0x88E4);
-
 /// The state tables of a driver: the buffers with their two bindings, and the vertex attributes.
 #[derive(Drop)]
 pub struct Tables {
@@ -106,11 +104,7 @@ impl Tables {
         if found.is_object {
             return Ok(());
         }
-        let empty = Buffer {
-            bytes: Bytes::new(self.alloc),
-            usage: STATIC_DRAW,
-        };
-        self.buffers.make(name, empty)
+        self.buffers.make(name, Buffer::new(self.alloc))
     }
 
     /// Binds a live name, whose object is there from now on, or nothing by 0.
@@ -138,7 +132,7 @@ impl Tables {
         let bytes = Bytes::from_slice(self.alloc, bytes)?;
         let name = self.binding(target);
         if let Some(buffer) = self.buffers.object_mut(name) {
-            *buffer = Buffer { bytes, usage };
+            buffer.store(bytes, usage);
         }
         Ok(())
     }
@@ -151,7 +145,7 @@ impl Tables {
     {
         let name = self.binding(target);
         if let Some(buffer) = self.buffers.object_mut(name) {
-            buffer.bytes.overwrite(offset as usize, bytes);
+            buffer.change(offset, bytes);
         }
     }
 
