@@ -1,5 +1,5 @@
 -- That each command that is built has a layout.
-use Rattle.std.proofs.Common.{◌≡◌, ◌⊎◌, ℕ, true, refl, sym, ◌∙◌, subst, inl, inr, arith, ◌<◌, ◌≤◌, ◌-◌, List, length, IsSome, zero, suc, [], ◌∷◌}
+use Rattle.std.proofs.Common.{◌≡◌, ◌⊎◌, ℕ, true, refl, sym, subst, inl, inr, arith, ◌<◌, ◌≤◌, ◌-◌, List, length, IsSome, zero, suc, [], ◌∷◌}
 use Rattle.std.specs.Prelude.{slice_get}
 use Rattle.std.proofs.lemmas.Bool.Decides.{nat_tests}
 use Rattle.gl_plain.specs.declared.commands.Layout.{Layout}

@@ -23,7 +23,7 @@ use Rattle.gl_plain.specs.Step.{choosing, outcome_by, object_outcome, with_error
 use Rattle.gl_plain.specs.Command.{ObjectCommand, GenBuffer, BindBuffer, BufferData, BufferSubData, DeleteBuffer, VertexAttrib4f, VertexAttribPointer, EnableVertexAttribArray, DisableVertexAttribArray, spelled, names_given}
 use Rattle.gl_plain.specs.Malformed.{has_bad_object_arguments}
 use Rattle.gl_plain.specs.Wire.{command_refusal, command_reply, with_command_reply, object_step}
-use Rattle.gl_plain.specs.Part.{calls_of, calls_by, object_calls, IsFrontOf}
+use Rattle.gl_plain.specs.Part.{calls_of, calls_by, object_calls, IsFairFrontOf}
 use Rattle.gl_driver.specs.History.{History, Served, Caused, stop_of}
 use Rattle.gl_driver.specs.Stops.{stop_of_driver}
 use Rattle.gl_driver.specs.declared.stop.DriverStop.{DriverStop}
@@ -96,7 +96,7 @@ module _ {D : Type 0} {history : D → History} {grown : D → D → Type 0} (c 
   ends_no_memory itself d = record {
     entries = [];
     served = Served-nothing itself d;
-    outcome = λ s. (default_answers, object_calls (before s) c default_answers, refl);
+    outcome = λ s. ((default_answers, object_calls (before s) c default_answers, refl), λ bad. refl);
     agree = tt;
   }
 
@@ -115,7 +115,7 @@ module _ {D : Type 0} {history : D → History} {grown : D → D → Type 0} (c 
       })
 
   -- want of memory behind these entries, passed on by `?`
-  pub passes_no_memory : (d d2 : D) (entries : List DriverEntry) (result : Result Reply ExecStop) → IsErrAnd result (λ e. e ≡ no_memory) → Served history grown d d2 entries → ((s : EsState) → IsFrontOf (object_calls (before s) c) entries) → Acts history grown c before after d d2 result
+  pub passes_no_memory : (d d2 : D) (entries : List DriverEntry) (result : Result Reply ExecStop) → IsErrAnd result (λ e. e ≡ no_memory) → Served history grown d d2 entries → ((s : EsState) → IsFairFrontOf (has_bad_object_arguments (before s) c) (object_calls (before s) c) entries) → Acts history grown c before after d d2 result
   passes_no_memory d d2 entries result passed served front =
       let p = err_from_is_err_and result passed in
       rw (p.1, p.2) (record { entries = entries; served = served; outcome = front; agree = tt })

@@ -29,7 +29,7 @@ module _ {S D : Type 0} {memory : S → MemoryView} {grown_memory : S → S → 
     entries = p.entries;
     served = p.served;
     grows = grows;
-    carried = (front_of_part (command_calls (state_of b) (command_of f)) p.entries p.outcome.itself.part, same);
+    carried = ((front_of_part (command_calls (state_of b) (command_of f)) p.entries p.outcome.itself.part, λ bad. let fair = p.outcome.itself.fair in cc), same);
   }
   by_result (Err (exec.Bad kind)) is p same grows = cc
   by_result (Err exec.Lost) is p same grows = cc

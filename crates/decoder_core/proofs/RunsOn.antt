@@ -7,11 +7,11 @@ use Rattle.gl_plain.specs.declared.commands.Malformed.TheVariants.{InvalidArgume
 use Rattle.gl_plain.specs.declared.commands.Stop.{Stop}
 use Rattle.gl_plain.specs.declared.driver_calls.DriverEntry.{DriverEntry}
 use Rattle.gl_plain.specs.Tables.{WireState, DriverState}
-use Rattle.gl_plain.specs.Oracle.{Oracle, told, default_answers}
+use Rattle.gl_plain.specs.Oracle.{Oracle, told}
 use Rattle.gl_plain.specs.Command.{command_of}
 use Rattle.gl_plain.specs.Malformed.{has_bad_arguments}
 use Rattle.gl_plain.specs.Wire.{Run, wire_run, wire_step, after_replies, stopped_at}
-use Rattle.gl_plain.specs.Part.{AreParts, AreCutParts, IsNextFront, command_calls}
+use Rattle.gl_plain.specs.Part.{AreParts, AreCutParts, IsNextFront}
 use Rattle.gl_plain.specs.Journal.{state_after}
 use Rattle.gl_plain.proofs.Journals.{told-append}
 use Rattle.cb_fetch.specs.Seen.{Seen, seen_first}
@@ -88,11 +88,6 @@ module _ (w : WireState) (d : DriverState) (all : Seen) (now : WireState) (drive
 
   pub parts_stopped : (f : Fetched) (next : Seen) → left ≡ seen_first None f next → has_bad_arguments now (command_of f) ≡ true → (rest : Oracle) → AreParts w d all.commands (told entries rest) entries
   parts_stopped f next e bad rest = parts_whole rest (rw (e, bad) refl)
-
--- no call was made
-pub no_front : (w : WireState) (fs : List Fetched) → IsNextFront false w fs []
-no_front w [] = refl
-no_front w (f ∷ fs) = (default_answers, command_calls w (command_of f) default_answers, refl)
 
 -- a command more behind others that were run
 pub HasRun-step : (w : WireState) (d : DriverState) (commands : List Fetched) (now : WireState) (driver : DriverState) (replies : List Reply) (entries : List DriverEntry) (f : Fetched) (part : List DriverEntry) (mid : WireState) (after : DriverState) (r : Reply)

@@ -28,9 +28,10 @@ use Rattle.decoder_core.specs.Taken.{IsAmong, left_seen, HasSameRing, LeadsOn}
 use Rattle.decoder_core.proofs.ReadSteps.{place_at}
 use Rattle.gl_plain.specs.Command.{command_of}
 use Rattle.gl_plain.specs.Part.{IsNextFront, command_calls}
+use Rattle.gl_plain.proofs.Fronts.{no_front}
 use Rattle.decoder_core.proofs.Carrying.{front_of_part}
 use Rattle.decoder_core.proofs.Lefts.{left_next, left_bad, put_below}
-use Rattle.decoder_core.proofs.RunsOn.{GoesOn-step, breaks, no_front, run_ended, parts_ended, run_stopped, parts_stopped}
+use Rattle.decoder_core.proofs.RunsOn.{GoesOn-step, breaks, run_ended, parts_ended, run_stopped, parts_stopped}
 
 -- where nothing is answered and nothing entered, a run is where it was
 stays : (w w2 : WireState) (d d2 : DriverState) (left left2 : Seen) (entries : List DriverEntry) → w2 ≡ w → d2 ≡ d → left2 ≡ left → entries ≡ [] → GoesFurther w d left w2 d2 left2 [] entries
@@ -214,5 +215,5 @@ module _ (h h2 : History) (s s2 : ServiceView) (m m2 : MemoryView) (entries : Li
   pub dropped_breaks : (reply : Reply) → DidExecute s m h s2 m2 h2 entries reply → (reads : Reads) (then : ℕ → Seen) (n k : ℕ) → IsAmong reads m.sizes s n (length m.copies) k → BreaksOff false s.wire h.state (left_seen reads m.sizes s n k then) [] entries
   dropped_breaks reply did reads then n k among = λ w d all before entered g.
       let first = waits_first reads then n k did.command did.waited among in
-      let next : IsNextFront false s.wire (left_seen reads m.sizes s n k then).commands entries = rw first.1 (front_of_part (command_calls s.wire (command_of did.command)) entries did.did.itself.part) in
+      let next : IsNextFront false s.wire (left_seen reads m.sizes s n k then).commands entries = rw first.1 (front_of_part (command_calls s.wire (command_of did.command)) entries did.did.itself.part, λ bad. let fair = did.did.itself.fair in cc) in
       rw (append-nil before) (breaks w d all s.wire h.state (left_seen reads m.sizes s n k then) before entered g false entries next)

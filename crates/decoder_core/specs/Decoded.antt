@@ -1,10 +1,9 @@
 -- What the execution of a command does to the service and its driver.
-use Rattle.std.specs.Prelude.{◌≡◌, ◌⊎◌, true, false, List, [], Option, Some, None, Result, Ok, Err}
+use Rattle.std.specs.Prelude.{◌≡◌, ◌⊎◌, List, Option, Some, None, Result, Ok, Err}
 use Rattle.gl_plain.specs.declared.driver_calls.DriverEntry.{DriverEntry}
 use Rattle.gl_plain.specs.declared.calls.Reply.{Reply}
 use Rattle.gl_plain.specs.declared.commands.Fetched.{Fetched}
 use Rattle.gl_plain.specs.declared.stop.ExecStop.{ExecStop}
-use Rattle.gl_plain.specs.declared.stop.ExecStop.TheVariants.{Bad, Lost, NoMemory}
 use Rattle.gl_plain.specs.Tables.{WireState, DriverState}
 use Rattle.gl_plain.specs.Command.{command_of}
 use Rattle.gl_plain.specs.Meaning.{command_meaning}

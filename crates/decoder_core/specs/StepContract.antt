@@ -3,8 +3,9 @@ use Rattle.std.specs.Prelude.{◌≡◌, ◌<◌, ℕ, ◌+◌, ◌*◌, List, O
 use Rattle.gl_plain.specs.declared.commands.Fetched.{Fetched}
 use Rattle.gl_plain.specs.declared.calls.Reply.{Reply}
 use Rattle.gl_plain.specs.declared.driver_calls.DriverEntry.{DriverEntry}
-use Rattle.gl_plain.specs.Part.{IsFrontOf, command_calls}
+use Rattle.gl_plain.specs.Part.{IsFairFrontOf, command_calls}
 use Rattle.gl_plain.specs.Command.{command_of}
+use Rattle.gl_plain.specs.Malformed.{has_bad_arguments}
 use Rattle.gl_driver.specs.History.{History, Served}
 use Rattle.cb_shm.specs.Memory.{MemoryView}
 use Rattle.cb_fetch.specs.Fetching.{left_in}
@@ -49,7 +50,7 @@ abbrev pub IsCarried : Fetched → Decoder → MemoryView → History → List D
 IsCarried f b m h entries b2 m2 h2 (Ok reply) = Did f (state_of b) entries (state_of b2) h2.state reply × (m2 ≡ replied m f reply) × (b2.stop ≡ None)
 IsCarried f b m h entries b2 m2 h2 (Err (stops.Bad stop)) = WasBad (command_meaning (state_of b) (command_of f)) entries (state_of b) (state_of b2) stop.kind × (stop.place ≡ f.place) × (m2 ≡ m)
 IsCarried f b m h entries b2 m2 h2 (Err stops.Lost) = WasLost (command_meaning (state_of b) (command_of f)) h h2 entries × (m2 ≡ m)
-IsCarried f b m h entries b2 m2 h2 (Err stops.NoMemory) = IsFrontOf (command_calls (state_of b) (command_of f)) entries × (m2 ≡ m)
+IsCarried f b m h entries b2 m2 h2 (Err stops.NoMemory) = IsFairFrontOf (has_bad_arguments (state_of b) (command_of f)) (command_calls (state_of b) (command_of f)) entries × (m2 ≡ m)
 
 -- a command was executed and its reply written
 pub record Carries {S D : Type 0} (memory : S → MemoryView) (grown_memory : S → S → Type 0) (history : D → History) (grown : D → D → Type 0) (f : Fetched) (b : Decoder) (m : S) (d : D) (b2 : Decoder) (m2 : S) (d2 : D) (result : Result Reply ServiceStop) : Type 0 where

@@ -12,7 +12,7 @@ use Rattle.gl_plain.specs.Plans.{plan_of}
 use Rattle.gl_plain.specs.Replied.{reply_bytes}
 use Rattle.gl_plain.specs.Command.{command_of}
 use Rattle.gl_plain.specs.Malformed.{has_bad_arguments}
-use Rattle.gl_plain.specs.Part.{IsFrontOf, command_calls}
+use Rattle.gl_plain.specs.Part.{IsFairFrontOf, command_calls}
 use Rattle.gl_driver.specs.History.{History}
 use Rattle.cb_shm.specs.Memory.{MemoryView, stored}
 use Rattle.cb_fetch.specs.Fetching.{DidCopy, DidRead, IsAtPut, FoundBad, FoundNoMemory}
@@ -85,10 +85,10 @@ pub record DidLose (s : ServiceView) (m : MemoryView) (h : History) (s2 : Servic
   pub after : s2 ≡ record s { wire = s2.wire; stop = Some stops.Lost }
   pub same : m2 ≡ m
 
--- there was no memory: for a copy, or behind a front of the calls of the command that waited
+-- there was no memory: for a copy, or behind a front of the calls of the command that waited, none where it is malformed
 abbrev pub IsShort : ServiceView → MemoryView → ServiceView → MemoryView → List DriverEntry → Type 0
 IsShort s m s2 m2 entries = ((s.waiting ≡ None) × FoundNoMemory s.fetch m s2.fetch m2 × (s2.wire ≡ s.wire) × (entries ≡ []))
-    ⊎ ((command : Fetched) × (s.waiting ≡ Some command) × IsFrontOf (command_calls s.wire (command_of command)) entries × (s2.fetch ≡ s.fetch))
+    ⊎ ((command : Fetched) × (s.waiting ≡ Some command) × IsFairFrontOf (has_bad_arguments s.wire (command_of command)) (command_calls s.wire (command_of command)) entries × (s2.fetch ≡ s.fetch))
 
 -- there was no memory, and no copy and no put was made
 pub record DidRunShort (s : ServiceView) (m : MemoryView) (s2 : ServiceView) (m2 : MemoryView) (entries : List DriverEntry) : Type 0 where

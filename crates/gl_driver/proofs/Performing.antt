@@ -1,5 +1,5 @@
 -- How a command comes to have done what it means.
-use Rattle.std.proofs.Common.{◌≡◌, false, List, [], ◌∷◌, Some, Result, Ok, Err, sym, ◌∙◌, ap}
+use Rattle.std.proofs.Common.{◌≡◌, false, List, [], ◌∷◌, Some, Result, Ok, Err, refl, sym, ◌∙◌, ap}
 use Rattle.gl_plain.specs.declared.driver_calls.DriverEntry.{DriverEntry}
 use Rattle.gl_plain.specs.declared.driver_calls.DriverCall.{DriverCall}
 use Rattle.gl_plain.specs.declared.calls.Reply.{Reply}
@@ -28,7 +28,7 @@ module _ {D S : Type 0} {history : D → History} {grown : D → D → Type 0} (
   pub outcome-stopped : {T : Type 0} (d d2 : D) (stop : DriverStop) (r : Result T DriverStop) → stop_of r ≡ Some stop → Served history grown d d2 [] → Caused (history d) (history d2) r → m.bad ≡ false → HasCall m
       → IsOutcome m (history d) (history d2) [] before after (Err (stop_of_driver stop))
   outcome-stopped d d2 driver.Lost r is served caused fair call = record { stopped = caused.stop ∙ is; cause = served.lost (caused.stop ∙ is); fair = fair; front = call }
-  outcome-stopped d d2 driver.NoMemory r is served caused fair call = (call.0, call.1 ∷ call.2, call.3)
+  outcome-stopped d d2 driver.NoMemory r is served caused fair call = ((call.0, call.1 ∷ call.2, call.3), λ bad. refl)
 
   pub outcome-goes_on : (m1 : Meaning S) (before1 : S) (entry : DriverEntry) (entries : List DriverEntry) (d d2 : D) (h1 : History) (result : Result Reply ExecStop) → Served history grown d d2 (entry ∷ entries) → Leads m m1 entry
       → IsOutcome m1 h1 (history d2) entries before1 after result → IsOutcome m (history d) (history d2) (entry ∷ entries) before after result
@@ -44,5 +44,8 @@ module _ {D S : Type 0} {history : D → History} {grown : D → D → Type 0} (
     fair = leads.fair;
     front = let p = was.front in (p.0, p.1, p.2, ap (λ (calls : List DriverCall). entry.call ∷ calls) p.3 ∙ sym (leads.calls (told entries p.0)));
   }
-  outcome-goes_on m1 before1 entry entries d d2 h1 (Err NoMemory) both leads front =
-      (front.0, front.1, ap (λ (calls : List DriverCall). entry.call ∷ calls) front.2 ∙ sym (leads.calls (told entries front.0)))
+  outcome-goes_on m1 before1 entry entries d d2 h1 (Err NoMemory) both leads short =
+      let front = short.0 in (
+        (front.0, front.1, ap (λ (calls : List DriverCall). entry.call ∷ calls) front.2 ∙ sym (leads.calls (told entries front.0))),
+        λ bad. let fair = leads.fair in cc,
+      )

@@ -8,7 +8,7 @@ use Rattle.gl_plain.specs.declared.stop.ExecStop.{ExecStop}
 use Rattle.gl_plain.specs.declared.stop.ExecStop.TheVariants.{Bad, Lost, NoMemory}
 use Rattle.gl_plain.specs.Oracle.{Oracle, told}
 use Rattle.gl_plain.specs.Meaning.{Meaning}
-use Rattle.gl_plain.specs.Part.{IsPartOf, IsFrontOf, IsProperFrontOf}
+use Rattle.gl_plain.specs.Part.{IsPartOf, IsFairFrontOf, IsProperFrontOf}
 use Rattle.gl_driver.specs.History.{History, Rose}
 use Rattle.gl_driver.specs.declared.stop.DriverStop.TheVariants as driver
 
@@ -32,9 +32,9 @@ pub record WasLost {S : Type 0} (m : Meaning S) (old new : History) (entries : L
   pub fair : m.bad ≡ false
   pub front : IsProperFrontOf m.calls entries
 
--- what a result says; for want of memory, that the entries are the first of the command's part, or all
+-- what a result says; for want of memory, that the entries are the first of the command's part, or all, and none of a malformed one
 abbrev pub IsOutcome : {S : Type 0} → Meaning S → History → History → List DriverEntry → S → S → Result Reply ExecStop → Type 0
 IsOutcome m old new entries before after (Ok reply) = Did m entries after reply
 IsOutcome m old new entries before after (Err (Bad kind)) = WasBad m entries before after kind
 IsOutcome m old new entries before after (Err Lost) = WasLost m old new entries
-IsOutcome m old new entries before after (Err NoMemory) = IsFrontOf m.calls entries
+IsOutcome m old new entries before after (Err NoMemory) = IsFairFrontOf m.bad m.calls entries

@@ -2,4 +2,5 @@
 pub mod NamesAgree
 pub mod BuffersAgree
 pub mod Journals
+pub mod Fronts
 mod Rows

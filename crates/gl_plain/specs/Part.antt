@@ -78,14 +78,19 @@ IsPartOf calls o entries = calls_in entries ≡ calls o
 abbrev pub IsFrontOf : (Oracle → List DriverCall) → List DriverEntry → Type 0
 IsFrontOf calls entries = (o : Oracle) × (more : List DriverCall) × (calls_in entries ++ more ≡ calls (told entries o))
 
--- the same, with at least one call left
+-- the same, but a command that is malformed enters nothing
+abbrev pub IsFairFrontOf : (bad : Bool) → (Oracle → List DriverCall) → List DriverEntry → Type 0
+IsFairFrontOf bad calls entries = IsFrontOf calls entries × (bad ≡ true → entries ≡ [])
+
+-- the entries are the first of those that a command enters, with at least one call left
 abbrev pub IsProperFrontOf : (Oracle → List DriverCall) → List DriverEntry → Type 0
 IsProperFrontOf calls entries = (o : Oracle) × (next : DriverCall) × (more : List DriverCall) × (calls_in entries ++ next ∷ more ≡ calls (told entries o))
 
--- the entries are the first of those that the next command enters, if there is one; where the driver was lost, with a call left
+-- the entries are the first of those that the next command enters, if there is one and it is not malformed; where the driver was lost,
+-- with a call left
 abbrev pub IsNextFront : (lost : Bool) → WireState → List Fetched → List DriverEntry → Type 0
 IsNextFront false w [] entries = entries ≡ []
-IsNextFront false w (f ∷ fs) entries = IsFrontOf (command_calls w (command_of f)) entries
+IsNextFront false w (f ∷ fs) entries = IsFairFrontOf (has_bad_arguments w (command_of f)) (command_calls w (command_of f)) entries
 IsNextFront true w [] entries = ⊥
 IsNextFront true w (f ∷ fs) entries = (has_bad_arguments w (command_of f) ≡ false) × IsProperFrontOf (command_calls w (command_of f)) entries
 

@@ -1,5 +1,5 @@
 -- When each status comes, where the source tells what it has.
-use Rattle.std.proofs.Common.{rules, ◌≡◌, ℕ, ◌<◌, ◌≤◌, ◌⊎◌, List, [], ◌++◌, Option, None, Some, Ok, Err, append-nil, length-append, length, arith, ap}
+use Rattle.std.proofs.Common.{rules, ◌≡◌, ℕ, ◌≤◌, List, [], Option, None, Some, Ok, Err, length-append, length, arith, ap}
 use Rattle.std.specs.Option.{unwrap_or}
 use Rattle.std.specs.Io.KnownBytes.{Consumes}
 use Rattle.gl_plain.specs.declared.commands.Stop.{Stop}
@@ -7,7 +7,6 @@ use Rattle.cb_shm.specs.declared.script.Script.{Script}
 use Rattle.ring_script.specs.Script.{script_in}
 use Rattle.report_text.specs.declared.end.End.{End}
 use Rattle.report_text.specs.declared.end.End.TheVariants as ends
-use Rattle.report_text.specs.Ends.{status_of}
 use Rattle.gles2_run.specs.declared.desk.Desk.{Desk}
 use Rattle.gles2_run.specs.Ends.{INPUT_LIMIT, IsInput, IsToldRing, Means, Closes, UnlessCut, UnlessLost, ring_run}
 

@@ -7,12 +7,11 @@ use Rattle.gl_plain.specs.declared.calls.Reply.{Reply}
 use Rattle.gl_plain.specs.declared.driver_calls.DriverEntry.{DriverEntry}
 use Rattle.gl_plain.specs.Tables.{WireState, opening_wire, opening_driver}
 use Rattle.gl_plain.specs.Bytes.{part}
-use Rattle.gl_plain.specs.Oracle.{Oracle, default_answers, told}
+use Rattle.gl_plain.specs.Oracle.{Oracle, told}
 use Rattle.gl_plain.specs.Wire.{Run, wire_run}
-use Rattle.gl_plain.specs.Part.{AreParts, IsNextFront, command_calls}
-use Rattle.gl_plain.specs.Command.{command_of}
-use Rattle.gl_plain.specs.declared.commands.Fetched.{Fetched}
+use Rattle.gl_plain.specs.Part.{AreParts}
 use Rattle.gl_plain.specs.Agreement.{Agrees}
+use Rattle.gl_plain.proofs.Fronts.{no_front}
 use Rattle.gl_plain.specs.Journal.{state_after}
 use Rattle.gl_driver.specs.History.{Served}
 use Rattle.gl_driver.specs.declared.stop.DriverStop.TheVariants as driver
@@ -179,11 +178,6 @@ module _ (script : Script) (given_answers : Answers) (gives : answers_left (load
 
     pub short_holds : IsErrOf r stops.NoMemory → HoldsFront false script (record { driver = now; answers = answers })
     short_holds is = holds_cut false (subst (Took (loaded_driver given_answers)) is from_loaded)
-
--- no call was made
-no_front : (w : WireState) (fs : List Fetched) → IsNextFront false w fs []
-no_front w [] = refl
-no_front w (f ∷ fs) = (default_answers, command_calls w (command_of f) default_answers, refl)
 
 none_few : (lost : Option ℕ) → IfSome lost (λ n. 0 ≤ n)
 none_few None = tt

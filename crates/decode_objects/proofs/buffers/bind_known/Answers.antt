@@ -19,9 +19,12 @@ pub returns-in_err-bind : goal.returns-in_err-bind
 returns-in_err-bind g c =
     passes_no_memory (command.BindBuffer c.args.target c.args.id) (buffers_in c.args.buffers.now c.args.errors.now) _ c.args.driver.now c.bind_buffer.new.self _ c.from_residual-in_err-bind.result c.from_residual-in_err-bind.ensures.1
     c.in_ok-bind_buffer.ensures.served (λ s. (
-      default_answers,
-      [],
-      sym (calls_allowed (buffers_in c.args.buffers.now c.args.errors.now s) (command.BindBuffer c.args.target c.args.id) _ (sym c.requires.allowed) ∙ rw c.requires.known refl),
+      (
+        default_answers,
+        [],
+        sym (calls_allowed (buffers_in c.args.buffers.now c.args.errors.now s) (command.BindBuffer c.args.target c.args.id) _ (sym c.requires.allowed) ∙ rw c.requires.known refl),
+      ),
+      λ bad. let fair = c.requires.fair in cc,
     ))
 
 pub returns : goal.returns

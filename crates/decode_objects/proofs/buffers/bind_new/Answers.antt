@@ -39,9 +39,12 @@ returns-in-Err g c =
       entries = _;
       served = c.in_ok-number.ensures.served;
       outcome = λ s. (
-        default_answers,
-        bind_buffer_call c.args.target c.in_ok-number.number ∷ [],
-        sym (calls_allowed (buffers_in c.args.buffers.now c.args.errors.now s) (command.BindBuffer c.args.target c.args.id) _ (sym c.requires.allowed) ∙ rw (c.requires.unknown, positive) refl),
+        (
+          default_answers,
+          bind_buffer_call c.args.target c.in_ok-number.number ∷ [],
+          sym (calls_allowed (buffers_in c.args.buffers.now c.args.errors.now s) (command.BindBuffer c.args.target c.args.id) _ (sym c.requires.allowed) ∙ rw (c.requires.unknown, positive) refl),
+        ),
+        λ bad. let fair = c.requires.fair in cc,
       );
       agree = tt;
     }

@@ -34,7 +34,7 @@ pub returns-in_err-bytes : goal.returns-in_err-bytes
 returns-in_err-bytes g c =
     passes_no_memory (command.BufferData c.args.target c.args.size c.args.usage c.args.words c.args.payload.now) (buffers_in c.args.buffers.now c.args.errors.now) _ c.args.driver.now c.args.driver.now [] c.from_residual.result c.from_residual.ensures.1
     (Served-nothing g.met.D.Driver.grown_itself c.args.driver.now)
-    (λ s. (default_answers, object_calls (buffers_in c.args.buffers.now c.args.errors.now s) (command.BufferData c.args.target c.args.size c.args.usage c.args.words c.args.payload.now) default_answers, refl))
+    (λ s. ((default_answers, object_calls (buffers_in c.args.buffers.now c.args.errors.now s) (command.BufferData c.args.target c.args.size c.args.usage c.args.words c.args.payload.now) default_answers, refl), λ bad. refl))
 
 pub buffer_data-requires : goal.buffer_data-requires
 buffer_data-requires g c =

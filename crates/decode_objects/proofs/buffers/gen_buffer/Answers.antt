@@ -16,12 +16,14 @@ returns-in_err-number g c =
     c.in_err-number.ensures.served c.in_err-number.ensures.cause (λ s. sym c.gen_is_bad.ensures ∙ c.if-gen_is_bad.false) (λ s. c.in_default.ensures) (λ s. (gen_buffer_call, [], refl))
 
 pub returns-in-Err : goal.returns-in-Err
-returns-in-Err g c = record {
-  entries = _;
-  served = c.in_ok-number.ensures.served;
-  outcome = λ s. (default_answers, [], sym (calls_allowed (buffers_in c.args.buffers.now c.args.errors.now s) (command.GenBuffer c.args.id) _ c.in_default.ensures));
-  agree = tt;
-}
+returns-in-Err g c =
+    let fair : is_bad_gen (tables c.args.buffers.now).names c.args.id ≡ false = sym c.gen_is_bad.ensures ∙ c.if-gen_is_bad.false in
+    record {
+      entries = _;
+      served = c.in_ok-number.ensures.served;
+      outcome = λ s. ((default_answers, [], sym (calls_allowed (buffers_in c.args.buffers.now c.args.errors.now s) (command.GenBuffer c.args.id) _ c.in_default.ensures)), λ bad. cc);
+      agree = tt;
+    }
 
 pub returns-in-Ok : goal.returns-in-Ok
 returns-in-Ok g c =
