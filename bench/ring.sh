@@ -1,7 +1,7 @@
 #!/usr/bin/env bash
 # Measures the proved program on large scripts: commands a second, bytes of input a second, seconds and peak memory, each at a size and at twice that size.
 #
-#   bench/ring.sh [PROGRAM]      PROGRAM is crates/gles2_cli/out/gles2_cli where it is left out, which ./gles2 first brings up to date
+#   bench/ring.sh [PROGRAM]      PROGRAM is crates/gles2_cli/out/gles2_cli where it is left out, which ./gles2 --prove first brings up to date
 #
 # It needs python3. The peak is what /usr/bin/time reports, or without it what python3's wait4 does, which is never below python3's own.
 # Times are the least of five runs, with the start of the process, reading the script and writing the report to a file: the seconds that
@@ -11,7 +11,7 @@ set -eu
 root=$(dirname "$(dirname "$(readlink -f "${BASH_SOURCE[0]}")")")
 program=${1:-}
 if [[ -z "$program" ]]; then
-    "$root/gles2" ring </dev/null >/dev/null
+    "$root/gles2" --prove
     program="$root/crates/gles2_cli/out/gles2_cli"
 fi
 

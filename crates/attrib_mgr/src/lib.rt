@@ -2,5 +2,10 @@
 #![tactic(auto)]
 
 mod attribs;
+mod refusals;
 
 pub use attribs::Attribs;
+pub use refusals::{attribute_refusal, pointer_refusal};
+
+#[cfg(test)]
+mod tests;

@@ -1,23 +1,20 @@
 //! The buffers of the service (OpenGL ES 2.0.25, section 2.9).
-ghost use Rattle.std.specs.Prelude.{◌≡◌, OnOk, OnErr, Some, IsSome, is_none, length};
+ghost use Rattle.std.specs.Prelude.{◌≡◌, OnOk, OnErr, IsSome, is_none, length};
 ghost use Rattle.std.specs.Bool.{OnTrue, OnFalse};
 ghost use Rattle.std.specs.FinMap as map;
 ghost use Rattle.std.specs.Option.{option_copied};
 ghost use Rattle.gl_base.specs.Names as limits;
-ghost use Rattle.gl_plain.specs.Tables as plain;
-ghost use Rattle.gl_plain.specs.Effect.{with_name, with_binding, with_bind, stored, new_name, changed, deleted, without};
-ghost use Rattle.gl_plain.specs.AttribEffect.{object_of};
-ghost use Rattle.gl_plain.specs.Refusal.{range_refusal};
+ghost use Rattle.gl_plain.specs.subjects.Names.{new_name, unbound};
+ghost use Rattle.gl_plain.specs.subjects.Buffers as plain;
+ghost use Rattle.gl_plain.specs.subjects.Attributes.{object_of};
 ghost use Rattle.svc_names.specs.Answers.{IsAnswer};
 
+use crate::buffer::Buffer;
+use gl_base::enums::{ARRAY_BUFFER, ELEMENT_ARRAY_BUFFER};
 use gl_base::{GlEnum, NumberMap};
-use gl_plain::{Buffer, Bytes, Name};
+use gl_plain::{Bytes, Name};
 use std::alloc::{AllocError, Global};
 use svc_names::{NameRefusal, NameTable};
-
-const ARRAY_BUFFER: GlEnum = GlEnum(0x8892);
-
-const ELEMENT_ARRAY_BUFFER: GlEnum = GlEnum(0x8893);
 
 /// The buffers of the service: the client's names, the objects by number, and the numbers that the two targets bind, 0 for none.
 #[derive(Drop)]
@@ -36,11 +33,11 @@ pub fn is_buffer_target(target: GlEnum) -> bool
     target == ARRAY_BUFFER || target == ELEMENT_ARRAY_BUFFER
 }
 
-/// The number that is bound where this object goes: 0 in place of its number.
-fn without(object: u64, bound: u64) -> u64
-    ensures { result ≡ without object bound }
+/// What is bound once the object of this number goes: nothing in its place.
+fn unbound(number: u64, bound: u64) -> u64
+    ensures { result ≡ unbound number bound }
 {
-    if bound == object { 0 } else { bound }
+    if bound == number { 0 } else { bound }
 }
 
 impl Buffers {
@@ -103,7 +100,7 @@ impl Buffers {
     }
 
     fn set_binding(&mut self, target: GlEnum, number: u64)
-        ensures { tables self.new ≡ with_binding (tables self.old) target number }
+        ensures { tables self.new ≡ plain.with_binding (tables self.old) target number }
     {
         if target == ARRAY_BUFFER {
             self.array = number;
@@ -114,7 +111,7 @@ impl Buffers {
 
     /// Brings a name into use, with the number of the object that it will have. It answers as `NameTable::add`.
     pub fn add_name(&mut self, id: u32, number: u64) -> Result<(), NameRefusal<Name>>
-        ensures ok { OnOk result (tables self.new ≡ with_name (tables self.old) id number) }
+        ensures ok { OnOk result (tables self.new ≡ plain.gen_buffers_effect (tables self.old) id number) }
         ensures err { OnErr result (tables self.new ≡ tables self.old) }
         ensures cause { IsAnswer (tables self.old).names id (new_name number) result }
     {
@@ -127,7 +124,7 @@ impl Buffers {
 
     /// Leaves nothing bound to the target.
     pub fn unbind(&mut self, target: GlEnum)
-        ensures { tables self.new ≡ with_binding (tables self.old) target 0 }
+        ensures { tables self.new ≡ plain.with_binding (tables self.old) target 0 }
     {
         self.set_binding(target, 0);
     }
@@ -135,7 +132,7 @@ impl Buffers {
     /// Binds a name in use, whose object is there from now on. Without memory for it all is as before.
     pub fn bind(&mut self, target: GlEnum, id: u32, name: Name) -> Result<(), AllocError>
         requires { map.get (tables self.old).names id ≡ Some name }
-        ensures ok { OnOk result (tables self.new ≡ with_bind (tables self.old) target id) }
+        ensures ok { OnOk result (tables self.new ≡ plain.bind_buffer_effect (tables self.old) target id) }
         ensures err { OnErr result (tables self.new ≡ tables self.old) }
     {
         let number = name.number;
@@ -154,41 +151,43 @@ impl Buffers {
         Ok(())
     }
 
-    /// Puts bytes and a usage in place of those of the buffer that the target binds. It takes no memory.
-    pub fn store(&mut self, target: GlEnum, bytes: Bytes, usage: GlEnum)
+    /// Puts bytes and a usage in place of those of the buffer that the target binds. It takes no memory so far, and answers `Ok`.
+    pub fn store(&mut self, target: GlEnum, bytes: Bytes, usage: GlEnum) -> Result<(), AllocError>
         requires { IsSome (plain.bound (tables self.old) target) }
-        ensures { tables self.new ≡ stored (tables self.old) target (record { bytes = bytes; usage = usage }) }
+        ensures ok { OnOk result (tables self.new ≡ plain.buffer_data_effect (tables self.old) target bytes usage) }
+        ensures err { OnErr result (tables self.new ≡ tables self.old) }
     {
         let number = self.binding(target);
-        if let Some(buffer) = self.objects.get_mut(number) {
-            buffer.store(bytes, usage);
-        }
+        let Some(buffer) = self.objects.get_mut(number) else {
+            unreachable!();
+        };
+        buffer.store(bytes, usage)
     }
 
     /// Puts bytes in place of those that the bound buffer has from an offset on. False, and all is as before, where nothing is bound or
     /// the range is outside. It takes no memory.
     pub fn change(&mut self, target: GlEnum, offset: u32, bytes: &[u8]) -> bool
-        ensures inside { result ≡ is_none (range_refusal (plain.bound (tables self.old) target) offset (length bytes.now)) }
-        ensures done { OnTrue result (tables self.new ≡ changed (tables self.old) target offset bytes.now) }
+        ensures inside { result ≡ is_none (plain.range_refusal (plain.bound (tables self.old) target) offset (length bytes.now)) }
+        ensures done { OnTrue result (tables self.new ≡ plain.buffer_sub_data_effect (tables self.old) target offset bytes.now) }
         ensures refused { OnFalse result (tables self.new ≡ tables self.old) }
     {
         let number = self.binding(target);
-        match self.objects.get_mut(number) {
-            Some(buffer) => buffer.change(offset, bytes),
-            None => false,
-        }
+        let Some(buffer) = self.objects.get_mut(number) else {
+            return false;
+        };
+        buffer.change(offset, bytes)
     }
 
     /// Deletes a name with its object, and nothing binds that from then on. A name that is not in use changes nothing. It takes no
     /// memory.
     pub fn delete(&mut self, id: u32)
-        ensures { tables self.new ≡ deleted (tables self.old) id }
+        ensures { tables self.new ≡ plain.delete_buffers_effect (tables self.old) id }
     {
         let Some(name) = self.names.remove(id) else {
             return;
         };
         self.objects.remove(name.number);
-        self.array = without(name.number, self.array);
-        self.element = without(name.number, self.element);
+        self.array = unbound(name.number, self.array);
+        self.element = unbound(name.number, self.element);
     }
 }

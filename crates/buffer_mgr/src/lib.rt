@@ -1,10 +1,11 @@
 //! The buffers of the service: their names, their objects, and the two bindings.
 #![tactic(auto)]
 
+mod buffer;
 mod buffers;
 
+pub use buffer::Buffer;
 pub use buffers::{Buffers, is_buffer_target};
-pub use gl_plain::Buffer;
 
 #[cfg(test)]
 mod tests;

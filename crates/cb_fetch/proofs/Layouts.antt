@@ -1,17 +1,17 @@
--- Layouts of commands that are built.
-use Rattle.std.proofs.Common.{◌≡◌, ℕ, Bool, ◌+◌, ◌==◌, ◌<◌, ◌≤◌, ◌⊎◌, inl, inr, true, false, cond, nat_lt, nat_le, List, [], length, refl, ap, Option, None, Some, IfSome, arith, subst}
+-- Layouts of commands that are built, and what the tests of a header leave.
+use Rattle.std.proofs.Common.{◌≡◌, ℕ, Bool, ◌+◌, ◌==◌, ◌<◌, ◌≤◌, ◌⊎◌, inl, inr, true, false, cond, nat_lt, nat_le, [], refl, ap, Option, None, Some, IfSome, arith, subst}
 use Rattle.std.proofs.lemmas.Bool.Decides.{nat_tests}
-use Rattle.gl_plain.specs.declared.commands.Layout.{Layout}
 use Rattle.gl_plain.specs.declared.commands.Malformed.{Malformed}
 use Rattle.gl_plain.specs.declared.commands.Malformed.TheVariants.{OutOfBounds, InvalidSize, InvalidArguments}
-use Rattle.gl_plain.specs.declared.commands.Plan.TheVariants as plan
-use Rattle.gl_plain.specs.Layouts.{IsFitting, built_layout, is_known, layout_of}
-use Rattle.gl_plain.specs.Plans.{IsLaidOut, bucket_plan, plan_in, plan_by, plan_of}
-use Rattle.gl_plain.specs.Ring.{first_fault, layout_fault, number_in, size_in, ready}
+use Rattle.gl_plain.specs.Commands.{is_known}
+use Rattle.cb_format.specs.declared.layouts.Layout.{Layout}
+use Rattle.cb_format.specs.declared.layouts.Plan.TheVariants as plan
+use Rattle.cb_format.specs.Layouts.{IsFitting, built_layout, layout_of}
+use Rattle.cb_format.specs.Plans.{bucket_plan, plan_in, plan_by, plan_of}
+use Rattle.cb_format.specs.Ring.{first_fault, layout_fault, number_in, size_in, ready}
 use Rattle.cb_format.proofs.Fitting.{layout_of_fits}
 use Rattle.cb_fetch.specs.Begun.{word_count, words_in}
-use Rattle.cb_fetch.specs.Inside.{HasWords}
-use Rattle.cb_fetch.specs.Advances.{HasLayout}
+use Rattle.cb_fetch.specs.Steps.{HasLayout}
 
 -- what is built has a layout
 built_is_laid_out : (known : Bool) (l : Layout) (o : Option Layout) → cond known o None ≡ Some l → o ≡ Some l
@@ -21,11 +21,11 @@ built_is_laid_out false l o e = cc
 pub laid_out : (number : ℕ) (l : Layout) → built_layout number ≡ Some l → layout_of number ≡ Some l
 laid_out number l e = built_is_laid_out (is_known number) l (layout_of number) e
 
-pub laid_out_words : (number : ℕ) (l : Layout) (words : List ℕ) → built_layout number ≡ Some l → length words ≡ l.words → IsLaidOut number words
-laid_out_words number l words e len = rw (laid_out number l e) len
-
 fits : (number : ℕ) (l : Layout) → built_layout number ≡ Some l → IsFitting l
 fits number l e = subst (λ (o : Option Layout). IfSome o IsFitting) (laid_out number l e) (layout_of_fits number)
+
+pub words_of : (header : ℕ) (l : Layout) → built_layout (number_in header) ≡ Some l → word_count header ≡ l.words
+words_of header l e = ap words_in e
 
 -- all tests before the last one of a header hold
 none_of : (a b c : Bool) (last : Option Malformed) → cond a (Some OutOfBounds) (cond b (Some InvalidSize) (cond c (Some OutOfBounds) last)) ≡ None
@@ -35,46 +35,51 @@ none_of false true c last e = cc
 none_of false false true last e = cc
 none_of false false false last e = (refl, refl, refl, e)
 
+module _ (entries put get header : ℕ) (fair : first_fault entries put get header ≡ None) where
+  tests : (nat_le entries put ≡ false) × ((size_in header == 0) ≡ false) × (nat_lt (ready entries put get) (size_in header) ≡ false) × (layout_fault (size_in header) (built_layout (number_in header)) ≡ None)
+  unfolding first_fault
+  tests = none_of (nat_le entries put) (size_in header == 0) (nat_lt (ready entries put get) (size_in header)) (layout_fault (size_in header) (built_layout (number_in header))) fair
+
+  -- the size of a command that passed the tests of its header is at most what is ready
+  pub put_below : put < entries
+  put_below = grind (arith, nat_tests, tests.0)
+
+  pub size_some : 0 < size_in header
+  size_some = grind (arith, nat_tests, tests.1)
+
+  pub size_ready : size_in header ≤ ready entries put get
+  size_ready = fit (ready entries put get) tests.2 where
+    fit : (r : ℕ) → nat_lt r (size_in header) ≡ false → size_in header ≤ r
+    fit r c = grind (arith, nat_tests)
+
+  within : get < entries → get + size_in header ≤ entries
+  within lt =
+      let below = put_below in
+      let t = tests.2 in
+      grind (arith, nat_tests)
+
 has_size : (any same : Bool) → cond any None (cond same None (Some InvalidArguments)) ≡ None → (any ≡ true) ⊎ (same ≡ true)
 has_size true same e = inl refl
 has_size false true e = inr refl
 has_size false false e = cc
 
-sized : (number size : ℕ) (o : Option Layout) → built_layout number ≡ o → layout_fault size o ≡ None → (l : Layout) × (built_layout number ≡ Some l) × (0 < l.words → size ≡ l.words + 1)
-sized number size None known e = cc
-sized number size (Some l) known e = (l, known, λ lt. by_size lt (has_size l.any_size (size == l.words + 1) e)) where
-  by_size : 0 < l.words → (l.any_size ≡ true) ⊎ ((size == l.words + 1) ≡ true) → size ≡ l.words + 1
-  by_size lt (inl free) = absurd (omega (arith, (fits number l known).free_has_none free))
-  by_size lt (inr same) = grind (arith, nat_tests)
+sized : (size : ℕ) (l : Layout) → IsFitting l → layout_fault size (Some l) ≡ None → 0 < l.words → size ≡ l.words + 1
+sized size l fitting e lt = by_size (has_size l.any_size (size == l.words + 1) e) where
+  by_size : (l.any_size ≡ true) ⊎ ((size == l.words + 1) ≡ true) → size ≡ l.words + 1
+  by_size (inl free) = absurd (omega (arith, fitting.free_has_none free))
+  by_size (inr same) = grind (arith, nat_tests)
 
 -- what the five tests of a header leave
-pub has_layout : (entries put get header : ℕ) → get < entries → first_fault entries put get header ≡ None → HasLayout entries get header
-unfolding first_fault
-has_layout entries put get header lt e =
-    let tests = none_of (nat_le entries put) (size_in header == 0) (nat_lt (ready entries put get) (size_in header)) (layout_fault (size_in header) (built_layout (number_in header))) e in
-    let s = sized (number_in header) (size_in header) _ refl tests.3 in
+pub has_layout : (entries put get header : ℕ) (l : Layout) → get < entries → built_layout (number_in header) ≡ Some l → first_fault entries put get header ≡ None → HasLayout entries get header l
+has_layout entries put get header l lt known fair =
+    let fitting = fits (number_in header) l known in
     record {
-      layout = s.0;
-      known = s.1;
-      fitting = fits (number_in header) s.0 s.1;
-      sized = s.2;
-      some = grind (arith, nat_tests, tests.1);
-      inside = within (tests.0) (tests.2);
-    } where
-      within : nat_le entries put ≡ false → nat_lt (ready entries put get) (size_in header) ≡ false → get + size_in header ≤ entries
-      within a c = grind (arith, nat_tests)
-
--- the size of a command that passed the tests of its header is at most what is ready
-pub is_ready : (entries put get header : ℕ) → first_fault entries put get header ≡ None → (put < entries) × (size_in header ≤ ready entries put get)
-unfolding first_fault
-is_ready entries put get header e =
-    let tests = none_of (nat_le entries put) (size_in header == 0) (nat_lt (ready entries put get) (size_in header)) (layout_fault (size_in header) (built_layout (number_in header))) e in
-    (below tests.0, fit (ready entries put get) tests.2) where
-      below : nat_le entries put ≡ false → put < entries
-      below a = grind (arith, nat_tests)
-
-      fit : (r : ℕ) → nat_lt r (size_in header) ≡ false → size_in header ≤ r
-      fit r c = grind (arith, nat_tests)
+      known = known;
+      fitting = fitting;
+      sized = sized (size_in header) l fitting (subst (λ (o : Option Layout). layout_fault (size_in header) o ≡ None) known (tests entries put get header fair).3);
+      some = size_some entries put get header fair;
+      inside = within entries put get header fair lt;
+    }
 
 -- a put that is not below the entries is the first fault
 pub put_fault : (entries put get header : ℕ) → entries ≤ put → first_fault entries put get header ≡ Some OutOfBounds
@@ -82,16 +87,6 @@ unfolding first_fault
 put_fault entries put get header le =
     let t : nat_le entries put ≡ true = grind (arith, nat_tests) in
     rw t refl
-
-pub words_of : (header : ℕ) (l : Layout) → built_layout (number_in header) ≡ Some l → word_count header ≡ l.words
-words_of header l e = ap words_in e
-
--- a header whose command has words
-pub has_words : (entries get header : ℕ) → HasLayout entries get header → 0 < word_count header → HasWords entries get header
-has_words entries get header h lt =
-    let w = words_of header h.layout h.known in
-    let some : 0 < h.layout.words = omega arith in
-    record { layout = h.layout; known = h.known; some = some; few = h.fitting.words_fit; sized = h.sized some; inside = h.inside }
 
 -- a command without words names no range
 bare_by : (payload reply : Option ℕ) (most words : ℕ) → words ≡ 0 → IfSome payload (λ at. at + 4 ≡ words) → IfSome reply (λ at. at + 2 ≡ words) → plan_by payload reply most [] ≡ plan.Nothing

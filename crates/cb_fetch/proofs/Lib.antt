@@ -1,9 +1,9 @@
 -- The lemmas that proofs share.
 pub mod Words
 pub mod Layouts
-pub mod Growth
-pub mod Settled
+pub mod Passed
 pub mod Less
 pub mod Reading
-pub mod Apart
+pub mod Copies
+pub mod Steps
 mod Rows

@@ -1,17 +1,18 @@
 -- Worked rows, as the definitions answer them.
 use Rattle.std.proofs.Common.{◌≡◌, ℕ, List, [], ◌∷◌, None, Some, refl}
+use Rattle.gl_base.specs.declared.limits.TheConstants.{DEFAULT_SURFACE}
 use Rattle.gl_plain.specs.declared.commands.Fetched.{Fetched}
 use Rattle.gl_plain.specs.declared.commands.Malformed.{Malformed}
 use Rattle.gl_plain.specs.declared.commands.Malformed.TheVariants.{InvalidSize, OutOfBounds, UnknownCommand}
-use Rattle.gl_plain.specs.Layouts.{layout_of}
+use Rattle.cb_format.specs.Layouts.{layout_of}
 use Rattle.gl_plain.specs.Oracle.{no_answers}
-use Rattle.gl_plain.specs.Ring.{first_fault}
+use Rattle.cb_format.specs.Ring.{first_fault}
 use Rattle.cb_shm.specs.declared.script.Script.{Script}
 use Rattle.cb_fetch.specs.Seen.{Seen, seen, command_at, fault_at}
 
 -- a ring whose bytes do not change
 abbrev ring : ℕ → List ℕ → ℕ → Script
-ring entries bytes put = record { entries = entries; regions = []; opening = record { region = 0; offset = 0; bytes = bytes } ∷ []; timed = []; puts = put ∷ []; answers = no_answers }
+ring entries bytes put = record { surface = DEFAULT_SURFACE; entries = entries; regions = []; opening = record { region = 0; offset = 0; bytes = bytes } ∷ []; timed = []; puts = put ∷ []; answers = no_answers }
 
 abbrev command : ℕ → List ℕ → ℕ → Fetched
 command number words place = record { number = number; words = record { items = words }; payload = []; place = place }
@@ -46,7 +47,7 @@ unfolding first_fault layout_of command_at fault_at
 two_commands = refl
 
 -- a Noop of three entries, and then a command of two where one is left before the ring's end
-across_the_end : seen (record { entries = 4; regions = []; opening = record { region = 0; offset = 0; bytes = 3 ∷ 0 ∷ 0 ∷ 0 ∷ [] } ∷ record { region = 0; offset = 12; bytes = 2 ∷ 0 ∷ 0x20 ∷ 0 ∷ [] } ∷ []; timed = []; puts = 3 ∷ 0 ∷ []; answers = no_answers })
+across_the_end : seen (record { surface = DEFAULT_SURFACE; entries = 4; regions = []; opening = record { region = 0; offset = 0; bytes = 3 ∷ 0 ∷ 0 ∷ 0 ∷ [] } ∷ record { region = 0; offset = 12; bytes = 2 ∷ 0 ∷ 0x20 ∷ 0 ∷ [] } ∷ []; timed = []; puts = 3 ∷ 0 ∷ []; answers = no_answers })
     ≡ ends (command 0 [] 0 ∷ []) OutOfBounds 3
 unfolding first_fault layout_of command_at fault_at
 across_the_end = refl
@@ -54,6 +55,7 @@ across_the_end = refl
 -- SetToken 7, whose header is overwritten by a word 0 just before a copy
 abbrev overwritten_at : ℕ → Script
 overwritten_at copy = record {
+  surface = DEFAULT_SURFACE;
   entries = 4;
   regions = [];
   opening = record { region = 0; offset = 0; bytes = 2 ∷ 0 ∷ 0x20 ∷ 0 ∷ 7 ∷ 0 ∷ 0 ∷ 0 ∷ [] } ∷ [];
@@ -74,6 +76,7 @@ in_time = refl
 -- two of three bytes of data
 abbrev with_data : ℕ → Script
 with_data offset = record {
+  surface = DEFAULT_SURFACE;
   entries = 16;
   regions = record { id = 1; size = 3 } ∷ [];
   opening = record { region = 0; offset = 0; bytes = 8 ∷ 0 ∷ 0x60 ∷ 0x20 ∷ 0x92 ∷ 0x88 ∷ 0 ∷ 0 ∷ 2 ∷ 0 ∷ 0 ∷ 0 ∷ 0xE4 ∷ 0x88 ∷ 0 ∷ 0 ∷ 1 ∷ 0 ∷ 0 ∷ 0 ∷ 2 ∷ 0 ∷ 0 ∷ 0 ∷ 1 ∷ 0 ∷ 0 ∷ 0 ∷ offset ∷ 0 ∷ 0 ∷ 0 ∷ [] }

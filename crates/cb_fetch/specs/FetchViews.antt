@@ -1,8 +1,7 @@
 -- What is seen of a fetcher.
 use Rattle.std.specs.Prelude.{ℕ, Option, None}
-use Rattle.cb_fetch.specs.declared.begun.Begun.{Begun}
-use Rattle.cb_fetch.specs.declared.begun.Begun.TheVariants.{Nothing}
 use Rattle.cb_fetch.specs.declared.outcome.FetchStop.{FetchStop}
+use Rattle.cb_fetch.specs.Begun.{Begun, Nothing}
 
 -- how many entries its ring has, the put that it was given last, the entry where the command stands, what was copied of that, and why
 -- it stopped, if it did

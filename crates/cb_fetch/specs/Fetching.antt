@@ -3,16 +3,14 @@ use Rattle.std.specs.Prelude.{◌≡◌, ◌≢◌, ◌≤◌, ◌<◌, ◌⊎�
 use Rattle.gl_plain.specs.declared.commands.Malformed.TheVariants.{OutOfBounds}
 use Rattle.gl_plain.specs.declared.commands.Fetched.{Fetched}
 use Rattle.gl_plain.specs.declared.commands.Stop.{Stop}
-use Rattle.gl_plain.specs.Plans.{plan_of, data_count}
-use Rattle.gl_plain.specs.Ring.{number_in, size_in, next_get}
+use Rattle.cb_format.specs.Plans.{plan_of, data_count}
+use Rattle.cb_format.specs.Ring.{number_in, size_in, next_get}
 use Rattle.cb_shm.specs.Memory.{MemoryView, copied}
-use Rattle.cb_fetch.specs.declared.begun.Begun.{Begun}
-use Rattle.cb_fetch.specs.declared.begun.Begun.TheVariants.{Nothing, Header, Body}
 use Rattle.cb_fetch.specs.declared.outcome.FetchStop.{FetchStop}
 use Rattle.cb_fetch.specs.declared.outcome.FetchStop.TheVariants as stops
 use Rattle.cb_fetch.specs.declared.outcome.FetchOutcome.{FetchOutcome}
 use Rattle.cb_fetch.specs.declared.outcome.FetchOutcome.TheVariants.{Copied, Ready, Idle, Bad, NoMemory}
-use Rattle.cb_fetch.specs.Begun.{Range, next_range, with_copy, fault_in, header_in, fetched_in}
+use Rattle.cb_fetch.specs.Begun.{Begun, Nothing, Header, Body, Range, next_range, with_copy, fault_in, header_in, fetched_in}
 use Rattle.cb_fetch.specs.FetchViews.{FetchView}
 
 -- a command is there to be read: one is begun, or put is elsewhere in the ring
@@ -90,7 +88,7 @@ distance entries put get = if nat_le get put then put - get else entries - get +
 abbrev pub left_of : Begun → ℕ
 left_of Nothing = 0
 left_of (Header header) = 2 ^ 32 + 1
-left_of (Body header words payload) = data_count (plan_of (number_in header) words.items) - length payload
+left_of (Body header words payload) = data_count (plan_of (number_in header) words) - length payload
 
 -- the entry from which on no command is begun
 abbrev pub unbegun : FetchView → Begun → ℕ

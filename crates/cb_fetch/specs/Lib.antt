@@ -6,5 +6,5 @@ pub mod Readable
 pub mod Seen
 pub mod Fetching
 pub mod Reading
+pub mod Steps
 pub mod Inside
-pub mod Advances

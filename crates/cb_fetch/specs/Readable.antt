@@ -1,9 +1,9 @@
 -- Commands that were read whole.
 use Rattle.std.specs.Prelude.{◌≡◌, length, Some}
-use Rattle.gl_plain.specs.declared.commands.Layout.{Layout}
+use Rattle.cb_format.specs.declared.layouts.Layout.{Layout}
 use Rattle.gl_plain.specs.declared.commands.Fetched.{Fetched}
-use Rattle.gl_plain.specs.Layouts.{built_layout}
-use Rattle.gl_plain.specs.Plans.{plan_of, data_count}
+use Rattle.cb_format.specs.Layouts.{built_layout}
+use Rattle.cb_format.specs.Plans.{plan_of, data_count}
 use Rattle.cb_fetch.specs.declared.outcome.FetchOutcome.{FetchOutcome}
 use Rattle.cb_fetch.specs.declared.outcome.FetchOutcome.TheVariants.{Copied, Ready, Idle, Bad, NoMemory}
 

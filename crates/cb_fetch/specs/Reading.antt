@@ -1,14 +1,13 @@
 -- What a fetcher copies is what memory holds at the number of each copy.
 use Rattle.std.specs.Prelude.{◌≡◌, ◌≢◌, ◌<◌, ℕ, ◌+◌, ◌*◌, List, length, Option, Some, None}
 use Rattle.gl_plain.specs.declared.commands.Fetched.{Fetched}
-use Rattle.gl_plain.specs.declared.commands.Plan.TheVariants as plan
-use Rattle.gl_plain.specs.Plans.{plan_of}
-use Rattle.gl_plain.specs.Ring.{number_in, size_in, first_fault, range_fault, next_get}
-use Rattle.cb_fetch.specs.declared.begun.Begun.{Begun}
-use Rattle.cb_fetch.specs.declared.begun.Begun.TheVariants.{Nothing, Header, Body}
+use Rattle.cb_format.specs.declared.layouts.Plan.TheVariants as plan
+use Rattle.cb_format.specs.Plans.{plan_of}
+use Rattle.cb_format.specs.Ring.{number_in, size_in, first_fault, range_fault, next_get}
 use Rattle.cb_fetch.specs.declared.outcome.FetchOutcome.{FetchOutcome}
 use Rattle.cb_fetch.specs.declared.outcome.FetchOutcome.TheVariants.{Copied, Ready, Idle, Bad, NoMemory}
-use Rattle.cb_fetch.specs.Begun.{PIECE}
+use Rattle.gl_base.specs.declared.limits.TheConstants.{COPY_LIMIT}
+use Rattle.cb_fetch.specs.Begun.{Begun, Nothing, Header, Body}
 use Rattle.cb_fetch.specs.Fetching.{distance}
 use Rattle.cb_fetch.specs.FetchViews.{FetchView}
 use Rattle.cb_fetch.specs.Seen.{Reads, header_read, words_read, pieces_read, command_at, copies_at, fault_at}
@@ -18,7 +17,7 @@ pub record ArePieces (reads : Reads) (n now region offset count : ℕ) (payload 
   pub pieces : ℕ
   pub made : now ≡ n + pieces
   pub bytes : payload ≡ pieces_read reads n region offset count pieces
-  pub full : length payload ≡ PIECE * pieces
+  pub full : length payload ≡ COPY_LIMIT * pieces
 
 -- What was copied of the command at get, whose header is copy n, where `now` copies were made in all; its tests so far hold.
 abbrev pub HasCopied : Reads → (ℕ → Option ℕ) → ℕ → ℕ → ℕ → ℕ → ℕ → Begun → Type 0
@@ -26,8 +25,8 @@ HasCopied reads sizes entries put get n now Nothing = now ≡ n
 HasCopied reads sizes entries put get n now (Header header) = (now ≡ n + 1) × (header ≡ header_read reads n get) × (first_fault entries put get header ≡ None)
 HasCopied reads sizes entries put get n now (Body header words payload) =
     (header ≡ header_read reads n get) × (first_fault entries put get header ≡ None)
-    × (words.items ≡ words_read reads n get) × (range_fault sizes (plan_of (number_in header) words.items) ≡ None)
-    × ((region offset count : ℕ) × (plan_of (number_in header) words.items ≡ plan.Read region offset count) × ArePieces reads (n + 2) now region offset count payload)
+    × (words ≡ words_read reads n get) × (range_fault sizes (plan_of (number_in header) words) ≡ None)
+    × ((region offset count : ℕ) × (plan_of (number_in header) words ≡ plan.Read region offset count) × ArePieces reads (n + 2) now region offset count payload)
 
 -- get is not put, where a command is begun
 abbrev pub IsApart : ℕ → ℕ → Begun → Type 0

@@ -4,16 +4,17 @@ use Prim.Native.Nat.{zero, suc}
 use Rattle.std.specs.Option.{unwrap_or}
 use Rattle.gl_plain.specs.declared.commands.Malformed.{Malformed}
 use Rattle.gl_plain.specs.declared.commands.Fetched.{Fetched}
-use Rattle.gl_plain.specs.declared.commands.Plan.{Plan}
-use Rattle.gl_plain.specs.declared.commands.Plan.TheVariants as plan
+use Rattle.cb_format.specs.declared.layouts.Plan.{Plan}
+use Rattle.cb_format.specs.declared.layouts.Plan.TheVariants as plan
 use Rattle.gl_plain.specs.declared.commands.Stop.{Stop}
 use Rattle.gl_plain.specs.Bytes.{part, word_at, words_from}
-use Rattle.gl_plain.specs.Plans.{plan_of, data_count}
-use Rattle.gl_plain.specs.Ring.{number_in, size_in, first_fault, range_fault, next_get}
+use Rattle.cb_format.specs.Plans.{plan_of, data_count}
+use Rattle.cb_format.specs.Ring.{number_in, size_in, first_fault, range_fault, next_get}
 use Rattle.cb_shm.specs.declared.script.Script.{Script}
-use Rattle.cb_shm.specs.declared.entries.CopyEntry.{CopyEntry}
+use Rattle.cb_shm.specs.Memory.{CopyEntry}
 use Rattle.cb_shm.specs.Hostile.{script_sizes, bytes_at}
-use Rattle.cb_fetch.specs.Begun.{PIECE, word_count}
+use Rattle.gl_base.specs.declared.limits.TheConstants.{COPY_LIMIT}
+use Rattle.cb_fetch.specs.Begun.{word_count}
 
 -- what a copy gives: by its number, its region, its offset and its count
 abbrev pub Reads : Type 0
@@ -43,11 +44,11 @@ plan_read reads n get = plan_of (number_in (header_read reads n get)) (words_rea
 -- the first k pieces of a range, from copy n on: 4,096 bytes each, and the last one shorter
 abbrev pub pieces_read : Reads → ℕ → ℕ → ℕ → ℕ → ℕ → List ℕ
 pieces_read reads n region offset count zero = []
-pieces_read reads n region offset count (suc k) = pieces_read reads n region offset count k ++ reads (n + k) region (offset + PIECE * k) (min PIECE (count - PIECE * k))
+pieces_read reads n region offset count (suc k) = pieces_read reads n region offset count k ++ reads (n + k) region (offset + COPY_LIMIT * k) (min COPY_LIMIT (count - COPY_LIMIT * k))
 
 -- how many pieces so many bytes are
 abbrev pub piece_count : ℕ → ℕ
-piece_count count = (count + (PIECE - 1)) / PIECE
+piece_count count = (count + (COPY_LIMIT - 1)) / COPY_LIMIT
 
 -- the data of a plan, from copy n on
 abbrev pub data_read : Reads → ℕ → Plan → List ℕ

@@ -1,13 +1,13 @@
 //! Copies of shared memory, one a call: a header, all words of a command, and a piece of its data. Nothing is copied where there is
 //! no memory.
-ghost use Rattle.std.specs.Prelude.{◌≡◌, ◌<◌, ◌≤◌, ◌+◌, ◌*◌, ◌^◌, List, ℕ, ◌++◌, length, IfOk, OnErr};
+ghost use Rattle.std.specs.Prelude.{◌≡◌, ◌<◌, ◌≤◌, ◌+◌, ◌*◌, ◌^◌, List, ℕ, ◌++◌, length, IfOk, OnOk, OnErr};
 ghost use Rattle.gl_plain.specs.Bytes.{word_at, words_from};
-ghost use Rattle.cb_fetch.specs.Begun.{header_range, words_range};
-ghost use Rattle.cb_fetch.specs.Advances.{Gave};
+ghost use Rattle.cb_fetch.specs.Begun.{header_range, words_range, piece_range};
+ghost use Rattle.cb_fetch.specs.Steps.{Gave};
 
 use arrayvec::ArrayVec;
 use cb_shm::Shm;
-use gl_plain::Bytes;
+use gl_base::limits::COPY_LIMIT;
 use std::alloc::AllocError;
 
 /// Copies the header at get.
@@ -44,25 +44,28 @@ pub fn copy_words<S: Shm>(
     }
 }
 
-/// Copies so many bytes of a region behind the data that was copied before. Room for them is made first, so that no copy is made
-/// where there is no memory.
+/// Copies the next piece of a range behind those that were copied before. Room for the whole range is made before its first piece, so that
+/// no copy is made where there is no memory.
 pub fn copy_piece<S: Shm>(
     shm: &mut S,
     region: u32,
     offset: u32,
     count: u32,
-    payload: Bytes,
-) -> Result<Bytes, AllocError>
-    requires { length payload + count < 2 ^ 32 }
-    ensures made { IfOk result (λ whole. (bytes : List ℕ) × Gave (S.memory shm.old) (record { region = region; offset = offset; count = count }) bytes (S.memory shm.new) × (whole ≡ payload ++ bytes)) }
+    payload: &mut Vec<u8>,
+) -> Result<(), AllocError>
+    requires left { length payload.old.items < count }
+    requires small { offset + count < 2 ^ 32 }
+    ensures made { OnOk result ((bytes : List ℕ) × Gave (S.memory shm.old) (piece_range (record { region = region; offset = offset; count = count }) (length payload.old.items)) bytes (S.memory shm.new) × (payload.new.items ≡ payload.old.items ++ bytes)) }
     ensures refused { OnErr result (S.memory shm.new ≡ S.memory shm.old) }
     ensures grows { S.grown shm.old shm.new }
 {
-    let mut bytes = payload.into_vec();
-    let done = bytes.len();
-    bytes.resize(done + count as usize, 0)?;
-    match shm.copy(region, offset, &mut bytes[done..]) {
-        Ok(()) => Ok(Bytes::from_vec(bytes)),
+    let done = payload.len() as u32;
+    let left = count - done;
+    payload.reserve_exact(left as usize)?;
+    let piece = COPY_LIMIT.min(left);
+    payload.resize((done + piece) as usize, 0)?;
+    match shm.copy(region, offset + done, &mut payload[done as usize..]) {
+        Ok(()) => Ok(()),
         Err(_) => Err(AllocError),
     }
 }

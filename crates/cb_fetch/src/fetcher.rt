@@ -1,20 +1,24 @@
 //! The fetcher: a machine that copies one command after another, one copy a step.
-ghost use Rattle.std.specs.Prelude.{◌≡◌, ◌≢◌, ◌≤◌, ◌<◌, ◌+◌, ◌*◌, length, ℕ, None};
-ghost use Rattle.std.specs.Bool.{OnTrue, OnFalse};
-ghost use Rattle.gl_plain.specs.Ring.{next_get};
-ghost use Rattle.cb_fetch.specs.declared.begun.Begun.TheVariants.{Nothing};
-ghost use Rattle.cb_fetch.specs.Advances.{HasPassed, Settles};
+ghost use Rattle.std.specs.Prelude.{◌≡◌, ◌≤◌, ◌<◌, ◌+◌, ◌*◌, length, ℕ, None, Some};
+ghost use Rattle.cb_format.specs.Ring.{next_get};
+ghost use Rattle.cb_fetch.specs.declared.outcome.FetchOutcome.TheVariants as outcome;
+ghost use Rattle.cb_fetch.specs.Begun.{Nothing};
 ghost use Rattle.cb_fetch.specs.FetchViews.{new_fetcher};
 ghost use Rattle.cb_fetch.specs.Fetching.{IsFetch, IsLess};
 ghost use Rattle.cb_fetch.specs.Readable.{BringsReadable};
 ghost use Rattle.cb_fetch.specs.Seen.{Reads, AreGiven};
 ghost use Rattle.cb_fetch.specs.Reading.{IsBegun, IsSeen};
+ghost use Rattle.cb_fetch.specs.Stops.{outcome_of};
+ghost use Rattle.cb_fetch.specs.Steps.{IsAtHeader, IsAtWords, IsAtData, IsStep};
 
-use crate::advancing::advance;
-use crate::begun::{Begun, Place};
+use crate::copying::{copy_header, copy_piece, copy_words};
+use crate::faults::{range_fault, start};
 use crate::outcome::{FetchOutcome, FetchStop};
-use cb_format::Header;
+use crate::stages::{Body, Stage, Start};
+use arrayvec::ArrayVec;
+use cb_format::{Header, Plan, laid_out_plan};
 use cb_shm::Shm;
+use gl_plain::{Bytes, Fetched, Malformed, Stop};
 use std::alloc::Global;
 use std::marker::Model;
 use std::mem::replace;
@@ -27,7 +31,7 @@ pub struct Fetcher {
     entries: u32,
     put: u32,
     get: u32,
-    begun: Begun,
+    stage: Stage,
     stop: Option<FetchStop>,
 }
 
@@ -54,7 +58,7 @@ impl Fetcher {
             entries,
             put: 0,
             get: 0,
-            begun: Begun::Nothing,
+            stage: Stage::Header,
             stop: None,
         }
     }
@@ -93,49 +97,127 @@ impl Fetcher {
         if let Some(stop) = self.stop {
             return stop.outcome();
         }
-        if self.is_at_put() {
-            return FetchOutcome::Idle;
+        match self.stage {
+            Stage::Header if self.get == self.put => FetchOutcome::Idle,
+            Stage::Header => self.read_header(shm),
+            Stage::Words(start) => self.read_words(shm, start),
+            Stage::Data(_) => self.read_piece(shm),
         }
-        let place = Place {
-            entries: self.entries,
-            put: self.put,
-            get: self.get,
+    }
+
+    /// Reads the header at get, if put is below the entries.
+    fn read_header<S: Shm>(&mut self, shm: &mut S) -> FetchOutcome
+        requires { IsAtHeader self.old }
+        ensures step { IsStep self.old (S.memory shm.old) self.new (S.memory shm.new) result }
+        ensures grows { S.grown shm.old shm.new }
+    {
+        if self.put >= self.entries {
+            return self.stop_bad(Malformed::OutOfBounds);
+        }
+        let Ok(word) = copy_header(shm, self.get) else {
+            return self.stop_at(FetchStop::NoMemory);
         };
-        let begun = replace(&mut self.begun, Begun::Nothing);
-        match advance(self.alloc, shm, place, begun) {
-            Ok(now) => self.settle(now),
-            Err(stop) => {
-                self.stop = Some(stop);
-                stop.outcome()
+        match start(self.entries, self.put, self.get, word) {
+            Err(kind) => self.stop_bad(kind),
+            Ok(start) if start.layout.words == 0 => {
+                self.finish(start.header, ArrayVec::new(), Bytes::new(self.alloc))
+            }
+            Ok(start) => {
+                self.stage = Stage::Words(start);
+                FetchOutcome::Copied
             }
         }
     }
 
-    /// Whether get is put, and no command is begun.
-    fn is_at_put(&self) -> bool
-        ensures yes { OnTrue result ((self.now.begun ≡ Nothing) × (self.now.get ≡ self.now.put)) }
-        ensures no { OnFalse result (self.now.begun ≡ Nothing → self.now.get ≢ self.now.put) }
+    /// Reads all words behind a header that passed its tests.
+    fn read_words<S: Shm>(&mut self, shm: &mut S, start: Start) -> FetchOutcome
+        requires { IsAtWords self.old start }
+        ensures step { IsStep self.old (S.memory shm.old) self.new (S.memory shm.new) result }
+        ensures grows { S.grown shm.old shm.new }
     {
-        match self.begun {
-            Begun::Nothing => self.get == self.put,
-            _ => false,
+        let Start { header, layout } = start;
+        let Ok(words) = copy_words(shm, self.get, layout.words) else {
+            return self.stop_at(FetchStop::NoMemory);
+        };
+        let planned = laid_out_plan(header.number, layout, words.as_slice());
+        if let Some(kind) = range_fault(shm, planned) {
+            return self.stop_bad(kind);
+        }
+        match planned {
+            Plan::Read {
+                region,
+                offset,
+                count,
+            } if count > 0 => {
+                self.stage = Stage::Data(Body {
+                    header,
+                    words,
+                    region,
+                    offset,
+                    count,
+                    payload: Vec::new(self.alloc),
+                });
+                FetchOutcome::Copied
+            }
+            _ => self.finish(header, words, Bytes::new(self.alloc)),
         }
     }
 
-    /// Takes what was copied of a command, and goes on to the next where that is all of it.
-    fn settle(&mut self, now: Begun) -> FetchOutcome
-        requires passed { HasPassed self.old.entries self.old.get now }
-        requires none { self.old.begun ≡ Nothing }
-        ensures { Settles self.old now self.new result }
+    /// Reads the next piece of the data.
+    fn read_piece<S: Shm>(&mut self, shm: &mut S) -> FetchOutcome
+        requires { IsAtData self.old }
+        ensures step { IsStep self.old (S.memory shm.old) self.new (S.memory shm.new) result }
+        ensures grows { S.grown shm.old shm.new }
     {
-        if !now.is_whole() {
-            self.begun = now;
-            return FetchOutcome::Copied;
+        let Stage::Data(mut body) = replace(&mut self.stage, Stage::Header) else {
+            unreachable!();
+        };
+        match copy_piece(shm, body.region, body.offset, body.count, &mut body.payload) {
+            Err(_) => self.stop_at(FetchStop::NoMemory),
+            Ok(()) if body.payload.len() < body.count as usize => {
+                self.stage = Stage::Data(body);
+                FetchOutcome::Copied
+            }
+            Ok(()) => self.finish(body.header, body.words, Bytes::from_vec(body.payload)),
         }
-        let Header { size, number: _ } = Header::read(now.header());
-        let command = now.into_command(self.alloc, self.get);
-        self.get = next_get(self.entries, self.get, size);
+    }
+
+    /// Gives the command at get, which was read whole, and goes on to the next.
+    fn finish(&mut self, header: Header, words: ArrayVec<u32, 16>, payload: Bytes) -> FetchOutcome
+        requires { self.old.get + header.size ≤ self.old.entries }
+        ensures command { result ≡ outcome.Ready (record { number = header.number; words = words; payload = payload; place = self.old.get }) }
+        ensures after { self.new ≡ record self.old { get = next_get self.old.entries self.old.get header.size; begun = Nothing } }
+    {
+        let command = Fetched {
+            number: header.number,
+            words,
+            payload,
+            place: self.get,
+        };
+        self.get = next_get(self.entries, self.get, header.size);
+        self.stage = Stage::Header;
         FetchOutcome::Ready(command)
+    }
+
+    /// Stops at the command at get, which is malformed.
+    fn stop_bad(&mut self, kind: Malformed) -> FetchOutcome
+        ensures outcome { result ≡ outcome.Bad kind self.old.get }
+        ensures after { self.new ≡ record self.old { begun = Nothing; stop = Some (FetchStop.Bad (record { kind = kind; place = self.old.get })) } }
+    {
+        self.stop_at(FetchStop::Bad(Stop {
+            kind,
+            place: self.get,
+        }))
+    }
+
+    /// Makes no more copies.
+    fn stop_at(&mut self, stop: FetchStop) -> FetchOutcome
+        ensures outcome { result ≡ outcome_of stop }
+        ensures after { self.new ≡ record self.old { begun = Nothing; stop = Some stop } }
+    {
+        self.stage = Stage::Header;
+        self.stop = Some(stop);
+        stop.outcome()
     }
 }
 

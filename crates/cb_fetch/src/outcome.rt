@@ -1,13 +1,16 @@
 //! What a step of a fetcher answers.
 
 use gl_plain::{Fetched, Malformed, Stop};
+use thiserror::Error;
 
 /// Why a fetcher makes no more copies.
-#[derive(Clone, Copy, Debug, PartialEq, Eq)]
+#[derive(Clone, Copy, Debug, PartialEq, Eq, Error)]
 pub enum FetchStop {
     /// A command is malformed.
+    #[error("the command at entry {place} is malformed: {kind:?}", place = .0.place, kind = .0.kind)]
     Bad(Stop),
     /// There was no memory.
+    #[error("no memory for a copy")]
     NoMemory,
 }
 

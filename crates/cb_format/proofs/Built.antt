@@ -2,8 +2,9 @@
 use Rattle.std.proofs.Common.{◌≡◌, ◌⊎◌, ℕ, true, refl, sym, subst, inl, inr, arith, ◌<◌, ◌≤◌, ◌-◌, List, length, IsSome, zero, suc, [], ◌∷◌}
 use Rattle.std.specs.Prelude.{slice_get}
 use Rattle.std.proofs.lemmas.Bool.Decides.{nat_tests}
-use Rattle.gl_plain.specs.declared.commands.Layout.{Layout}
-use Rattle.gl_plain.specs.Layouts.{is_known, layout_of}
+use Rattle.cb_format.specs.declared.layouts.Layout.{Layout}
+use Rattle.cb_format.specs.Layouts.{layout_of}
+use Rattle.gl_plain.specs.Commands.{is_known}
 use Rattle.cb_format.specs.declared.tables.TheConstants.{BUFFER_LAYOUTS, GL_LAYOUTS}
 use Rattle.cb_format.proofs.Numbered.{layout_of_buffer, layout_of_gl}
 

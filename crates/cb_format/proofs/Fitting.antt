@@ -4,8 +4,8 @@ use Rattle.std.specs.Option.{OnSome}
 use Rattle.std.specs.List.{list_all}
 use Rattle.std.specs.Map.{lookup}
 use Rattle.std.proofs.lemmas.Bool.Decides.{nat_tests}
-use Rattle.gl_plain.specs.declared.commands.Layout.{Layout}
-use Rattle.gl_plain.specs.Layouts.{IsFitting, buffer_rows, gl_rows, layout_of}
+use Rattle.cb_format.specs.declared.layouts.Layout.{Layout}
+use Rattle.cb_format.specs.Layouts.{IsFitting, buffer_rows, gl_rows, layout_of}
 
 -- so many words from the place on are the last
 abbrev ends : Option ℕ → ℕ → ℕ → Bool

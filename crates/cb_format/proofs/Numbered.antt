@@ -6,9 +6,9 @@ use Rattle.std.specs.Slice.{IsItemAt}
 use Rattle.std.specs.Map.{lookup}
 use Rattle.std.proofs.lemmas.Option.{slice_get_past, slice_get_read}
 use Rattle.std.proofs.lemmas.Bool.Decides.{nat_tests}
-use Rattle.gl_plain.specs.declared.commands.Layout.{Layout}
+use Rattle.cb_format.specs.declared.layouts.Layout.{Layout}
 use Rattle.cb_format.specs.declared.tables.TheConstants.{BUFFER_LAYOUTS, GL_LAYOUTS}
-use Rattle.gl_plain.specs.Layouts.{buffer_rows, gl_rows, layout_of}
+use Rattle.cb_format.specs.Layouts.{buffer_rows, gl_rows, layout_of}
 
 -- a row for each layout, numbered from a number on
 abbrev numbered : ℕ → List Layout → List (ℕ × Layout)

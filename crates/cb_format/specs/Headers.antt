@@ -1,6 +1,6 @@
 -- Headers: the first word of each command.
 use Rattle.std.specs.Prelude.{ℕ, ◌+◌, ◌*◌, ◌^◌}
-use Rattle.gl_plain.specs.Ring.{size_in, number_in}
+use Rattle.cb_format.specs.Ring.{size_in, number_in}
 use Rattle.cb_format.specs.declared.headers.Header.{Header}
 
 -- a header's low 21 bits are its size, and its high 11 bits its number

@@ -4,13 +4,15 @@
 
 mod commands;
 mod headers;
+mod layouts;
 mod ranges;
 mod tables;
 
 pub use commands::Command;
-pub use gl_plain::{Fetched, Layout, Plan};
+pub use gl_plain::Fetched;
 pub use headers::Header;
-pub use ranges::plan;
+pub use layouts::{Layout, Plan};
+pub use ranges::{laid_out_plan, plan};
 pub use tables::{known, layout};
 
 #[cfg(test)]

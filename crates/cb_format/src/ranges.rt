@@ -1,12 +1,11 @@
 //! The range that a command plans to read or to write.
-ghost use Rattle.std.specs.Prelude.{◌≡◌, ◌≤◌, ◌+◌, length};
-ghost use Rattle.gl_plain.specs.Plans.{IsLaidOut, bucket_plan, data_plan, plan_of, reply_plan};
+ghost use Rattle.std.specs.Prelude.{◌≡◌, ◌≤◌, ◌+◌, length, Some};
+ghost use Rattle.cb_format.specs.Layouts.{IsFitting, layout_of};
+ghost use Rattle.cb_format.specs.Plans.{IsLaidOut, bucket_plan, data_plan, plan_of, reply_plan};
 
+use crate::layouts::{Layout, Plan};
 use crate::tables::layout;
-use gl_plain::Plan;
-
-/// The number of GetBucketData, whose words are a bucket, an offset in it, a count, a region and a place.
-const GET_BUCKET_DATA: u32 = 5;
+use gl_plain::numbers::GET_BUCKET_DATA;
 
 /// The source of data in shared memory.
 const SHARED_MEMORY: u32 = 1;
@@ -58,12 +57,22 @@ pub fn plan(number: u32, words: &[u32]) -> Plan
     requires { IsLaidOut number words.now }
     ensures { result ≡ plan_of number words.now }
 {
+    match layout(number) {
+        Some(found) => laid_out_plan(number, found, words),
+        None => unreachable!(),
+    }
+}
+
+/// The same for a command whose layout was looked up before.
+pub fn laid_out_plan(number: u32, found: Layout, words: &[u32]) -> Plan
+    requires found { layout_of number ≡ Some found }
+    requires fitting { IsFitting found }
+    requires words { length words.now ≡ found.words }
+    ensures { result ≡ plan_of number words.now }
+{
     if number == GET_BUCKET_DATA {
         return bucket_range(words);
     }
-    let Some(found) = layout(number) else {
-        return Plan::Nothing;
-    };
     if let Some(at) = found.payload_at {
         return data_range(words, at as usize);
     }

@@ -1,12 +1,18 @@
 //! The table of layouts, by number.
 ghost use Rattle.std.specs.Prelude.{◌≡◌, IfSome, IsSome};
 ghost use Rattle.std.specs.Bool.{OnTrue};
-ghost use Rattle.gl_plain.specs.Layouts.{IsFitting, is_known, layout_of};
+ghost use Rattle.gl_plain.specs.Commands.{is_known};
+ghost use Rattle.cb_format.specs.Layouts.{IsFitting, layout_of};
 
-use gl_plain::Layout;
+use crate::layouts::Layout;
+use gl_plain::numbers::{
+    ACTIVE_TEXTURE, BIND_BUFFER, BUFFER_DATA, BUFFER_SUB_DATA, DELETE_BUFFERS,
+    DISABLE_VERTEX_ATTRIB_ARRAY, ENABLE_VERTEX_ATTRIB_ARRAY, GEN_BUFFERS, GET_ERROR, NOOP,
+    SET_TOKEN, VERTEX_ATTRIB_4F, VERTEX_ATTRIB_POINTER,
+};
 
 /// The number of the first command of OpenGL ES.
-const FIRST_OF_GL: u32 = 256;
+const FIRST_OF_GL: u32 = ACTIVE_TEXTURE;
 
 /// A layout of so many words, none of them of data or of a reply in shared memory.
 macro_rules! plain {
@@ -177,5 +183,18 @@ pub fn known(number: u32) -> bool
     ensures value { result ≡ is_known number }
     ensures laid_out { OnTrue result (IsSome (layout_of number)) }
 {
-    matches!(number, 0 | 1 | 257..=261 | 293..=296 | 327)
+    matches!(
+        number,
+        NOOP | SET_TOKEN
+            | GEN_BUFFERS
+            | BIND_BUFFER
+            | BUFFER_DATA
+            | BUFFER_SUB_DATA
+            | DELETE_BUFFERS
+            | VERTEX_ATTRIB_4F
+            | VERTEX_ATTRIB_POINTER
+            | ENABLE_VERTEX_ATTRIB_ARRAY
+            | DISABLE_VERTEX_ATTRIB_ARRAY
+            | GET_ERROR
+    )
 }

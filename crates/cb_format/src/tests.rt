@@ -58,7 +58,7 @@ fn each_shape_has_its_words(rt: HostRuntime) {
 }
 
 #[test]
-#[tactic(auto, unfolding(gl_plain::specs::Layouts::layout_of))]
+#[tactic(auto, unfolding(crate::specs::Layouts::layout_of))]
 fn data_is_read_from_shared_memory_alone(rt: HostRuntime) {
     let shared = Plan::Read {
         region: 9,
@@ -78,7 +78,7 @@ fn data_is_read_from_shared_memory_alone(rt: HostRuntime) {
 }
 
 #[test]
-#[tactic(auto, unfolding(gl_plain::specs::Layouts::layout_of))]
+#[tactic(auto, unfolding(crate::specs::Layouts::layout_of))]
 fn replies_and_bucket_bytes_are_written(rt: HostRuntime) {
     let error = Plan::Write {
         region: 2,

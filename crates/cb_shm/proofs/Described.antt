@@ -4,10 +4,9 @@ use Prim.Native.Nat.{suc}
 use Rattle.std.proofs.lemmas.List.{length-append}
 use Rattle.std.specs.FinMap as map
 use Rattle.gl_plain.specs.declared.memory.Patch.{Patch}
-use Rattle.cb_shm.specs.declared.entries.CopyEntry.{CopyEntry}
 use Rattle.cb_shm.specs.declared.script.Script.{Script}
 use Rattle.cb_shm.specs.declared.hostile.HostileMemory.{HostileMemory}
-use Rattle.cb_shm.specs.Memory.{MemoryView, copied}
+use Rattle.cb_shm.specs.Memory.{CopyEntry, MemoryView, copied}
 use Rattle.cb_shm.specs.Blocks.{Blocks, sizes_of, part_of}
 use Rattle.cb_shm.specs.Patched.{ArePatched}
 use Rattle.cb_shm.specs.Hostile.{script_sizes, patches_at, numbered_below, at_number}
@@ -18,7 +17,7 @@ use Rattle.cb_shm.specs.HostileMemories.{IsMemoryOf, IsScripted, AreScripted, me
 use Rattle.cb_shm.proofs.Applies.{ArePatched-applied, ArePatched-zero, sizes_applied}
 use Rattle.cb_shm.proofs.Files.{bucket-filed_all, bucket-remove, at_number-inside}
 
-pub described_new : (s : Script) (m : HostileMemory) → IsWholeScript s → m.copies ≡ []
+pub described_new : (s : Script) (m : HostileMemory) → IsWholeScript s → m.history.copies ≡ []
     → m.regions ≡ applied (bucket (filed_all s.timed map.empty) 0) (applied s.opening (zero_blocks s.entries s.regions))
     → m.waiting ≡ map.remove (filed_all s.timed map.empty) 0 → IsMemoryOf s m
 described_new s m whole copies regions waiting =
@@ -28,7 +27,7 @@ described_new s m whole copies regions waiting =
     ArePatched-applied sizes s.opening (at_number 0 s.timed) (applied s.opening (zero_blocks s.entries s.regions)) opened (at_number-inside sizes 0 s.timed whole.timed) in
     let regions_is : m.regions ≡ applied (at_number 0 s.timed) (applied s.opening (zero_blocks s.entries s.regions)) =
     regions ∙ ap (λ (ps : List Patch). applied ps (applied s.opening (zero_blocks s.entries s.regions))) (bucket-filed_all s.timed 0) in
-    let none : length m.copies ≡ 0 = ap length copies in
+    let none : length m.history.copies ≡ 0 = ap length copies in
     record {
       whole = whole;
       copies_are = subst (AreScripted s 0) (sym copies) tt;
@@ -43,15 +42,16 @@ AreScripted-append s n k [] c at all one =
 AreScripted-append s n k (d ∷ cs) c at all one = (all.0, AreScripted-append s (n + 1) k cs c (omega (arith, at)) all.1 one)
 
 -- one more copy gives what the regions had, and what waits for the next one is written
-pub described_more : (s : Script) (a b : HostileMemory) (c : CopyEntry) → b.copies ≡ a.copies ++ c ∷ []
+pub described_more : (s : Script) (a b : HostileMemory) (c : CopyEntry) → b.history.copies ≡ a.history.copies ++ c ∷ []
     → part_of (map.get a.regions c.region) c.offset (length c.bytes) ≡ Some c.bytes
-    → b.regions ≡ applied (bucket a.waiting (length b.copies)) a.regions
-    → b.waiting ≡ map.remove a.waiting (length b.copies) → IsMemoryOf s a → IsMemoryOf s b
+    → b.regions ≡ applied (bucket a.waiting b.made) a.regions
+    → b.waiting ≡ map.remove a.waiting b.made → IsMemoryOf s a → IsMemoryOf s b
 described_more s a b c copies gave regions waiting is =
     let sizes = script_sizes s in
-    let n = length a.copies in
-    let next : length b.copies ≡ suc n = omega (arith, ap length copies, length-append a.copies (c ∷ [])) in
-    let due : bucket a.waiting (length b.copies) ≡ at_number (suc n) s.timed = ap (bucket a.waiting) next ∙ is.waiting_is (suc n) (omega arith) in
+    let n = length a.history.copies in
+    let next : length b.history.copies ≡ suc n = omega (arith, ap length copies, length-append a.history.copies (c ∷ [])) in
+    let number : b.made ≡ suc n = b.counted ∙ next in
+    let due : bucket a.waiting b.made ≡ at_number (suc n) s.timed = ap (bucket a.waiting) number ∙ is.waiting_is (suc n) (omega arith) in
     let now : ArePatched sizes (patches_at s n ++ at_number (suc n) s.timed) (applied (at_number (suc n) s.timed) a.regions) =
     ArePatched-applied sizes (patches_at s n) (at_number (suc n) s.timed) a.regions is.regions_are (at_number-inside sizes (suc n) s.timed is.whole.timed) in
     let patches : patches_at s n ++ at_number (suc n) s.timed ≡ patches_at s (suc n) = append_assoc s.opening (numbered_below (suc n) s.timed) (at_number (suc n) s.timed) in
@@ -59,16 +59,16 @@ described_more s a b c copies gave regions waiting is =
     let scripted : IsScripted s n c = ap (λ (o : Option (List ℕ)). part_of o c.offset (length c.bytes)) (sym (is.regions_are.bytes_are c.region)) ∙ gave in
     record {
       whole = is.whole;
-      copies_are = subst (AreScripted s 0) (sym copies) (AreScripted-append s 0 n a.copies c (omega arith) is.copies_are scripted);
+      copies_are = subst (AreScripted s 0) (sym copies) (AreScripted-append s 0 n a.history.copies c (omega arith) is.copies_are scripted);
       regions_are = subst (λ (k : ℕ). ArePatched sizes (patches_at s k) b.regions) (sym next) (subst (ArePatched sizes (patches_at s (suc n))) (sym regions_is) (subst (λ (ps : List Patch). ArePatched sizes ps (applied (at_number (suc n) s.timed) a.regions)) patches now));
-      waiting_is = λ k after. ap (λ (w : Waiting). bucket w k) waiting ∙ bucket-remove a.waiting (length b.copies) k (λ same. absurd (omega (arith, same))) ∙ is.waiting_is k (omega (arith, next));
+      waiting_is = λ k after. ap (λ (w : Waiting). bucket w k) waiting ∙ bucket-remove a.waiting b.made k (λ same. absurd (omega (arith, same, number))) ∙ is.waiting_is k (omega (arith, next));
     }
 
 abbrev pub SeenMore : HostileMemory → List CopyEntry → Blocks → ℕ → ℕ → List ℕ → Type 0
-SeenMore a copies regions region offset bytes = let seen : MemoryView = record { sizes = sizes_of regions; copies = copies; puts = a.puts } in seen ≡ copied (memory_of a) region offset bytes
+SeenMore a copies regions region offset bytes = let seen : MemoryView = record { sizes = sizes_of regions; copies = copies; puts = a.history.puts } in seen ≡ copied (memory_of a) region offset bytes
 
 -- what is seen of the memory gains the copy alone
 pub seen_more : (a : HostileMemory) (copies : List CopyEntry) (regions : Blocks) (region offset : ℕ) (bytes : List ℕ) (ps : List Patch)
-    → copies ≡ a.copies ++ record { region = region; offset = offset; bytes = bytes } ∷ [] → regions ≡ applied ps a.regions → SeenMore a copies regions region offset bytes
+    → copies ≡ a.history.copies ++ record { region = region; offset = offset; bytes = bytes } ∷ [] → regions ≡ applied ps a.regions → SeenMore a copies regions region offset bytes
 seen_more a copies regions region offset bytes ps more written =
-    λ i. record { sizes = (ap sizes_of written ∙ sizes_applied ps a.regions) i; copies = more i; puts = a.puts }
+    λ i. record { sizes = (ap sizes_of written ∙ sizes_applied ps a.regions) i; copies = more i; puts = a.history.puts }

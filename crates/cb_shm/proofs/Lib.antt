@@ -1,3 +1,4 @@
+mod Walks
 mod Writes
 mod NewPlain
 mod Applies

@@ -6,6 +6,7 @@ use Rattle.std.specs.Option.{option_map}
 use Rattle.std.specs.Ordering.{nat_cmp}
 use Rattle.std.specs.FinMap as map
 use Rattle.gl_base.proofs.Found.{get-insert_here, get-insert_other, test}
+use Rattle.cb_shm.specs.declared.plain.TheConstants.{RESULT_SIZE}
 use Rattle.cb_shm.specs.Blocks.{Blocks}
 use Rattle.cb_shm.specs.Patched.{ArePatched, patched_zeros}
 use Rattle.cb_shm.specs.PlainView.{plain_size}
@@ -21,21 +22,21 @@ abbrev pub plain_none : Blocks
 plain_none = map.empty
 
 abbrev pub plain_blocks : ℕ → ℕ → Blocks
-plain_blocks entries transfer = map.insert (map.insert (map.insert plain_none 2 (replicate 65536 0)) 1 (replicate transfer 0)) 0 (replicate (4 * entries) 0)
+plain_blocks entries transfer = map.insert (map.insert (map.insert plain_none 2 (replicate RESULT_SIZE 0)) 1 (replicate transfer 0)) 0 (replicate (4 * entries) 0)
 
 none_there : (q : ℕ) → map.get plain_none q ≡ None
 none_there q = map.get-empty nat_cmp q
 
 -- the bytes of each region, from the last one added on
 found : (entries transfer q : ℕ) → map.get (plain_blocks entries transfer) q
-    ≡ (if q == 0 then Some (replicate (4 * entries) 0) else if q == 1 then Some (replicate transfer 0) else if q == 2 then Some (replicate 65536 0) else None)
+    ≡ (if q == 0 then Some (replicate (4 * entries) 0) else if q == 1 then Some (replicate transfer 0) else if q == 2 then Some (replicate RESULT_SIZE 0) else None)
 found entries transfer q =
-    let two = map.insert plain_none 2 (replicate 65536 0) in
+    let two = map.insert plain_none 2 (replicate RESULT_SIZE 0) in
     let one = map.insert two 1 (replicate transfer 0) in
     get-added one 0 (replicate (4 * entries) 0) q
     ∙ ap (λ (r : Option (List ℕ)). if q == 0 then Some (replicate (4 * entries) 0) else r) (get-added two 1 (replicate transfer 0) q
-    ∙ ap (λ (r : Option (List ℕ)). if q == 1 then Some (replicate transfer 0) else r) (get-added plain_none 2 (replicate 65536 0) q
-    ∙ ap (λ (r : Option (List ℕ)). if q == 2 then Some (replicate 65536 0) else r) (none_there q)))
+    ∙ ap (λ (r : Option (List ℕ)). if q == 1 then Some (replicate transfer 0) else r) (get-added plain_none 2 (replicate RESULT_SIZE 0) q
+    ∙ ap (λ (r : Option (List ℕ)). if q == 2 then Some (replicate RESULT_SIZE 0) else r) (none_there q)))
 
 bytes_chosen : (a b c : Bool) (x y z q : ℕ) → (if a then Some (replicate x 0) else if b then Some (replicate y 0) else if c then Some (replicate z 0) else None)
     ≡ option_map (patched_zeros [] q) (if a then Some x else if b then Some y else if c then Some z else None)
@@ -51,5 +52,5 @@ sizes_chosen (Some n) q = ap (λ (m : ℕ). Some m) (length-replicate n 0)
 pub ArePatched-new : (entries transfer : ℕ) → ArePatched (plain_size entries transfer) [] (plain_blocks entries transfer)
 ArePatched-new entries transfer =
     let bytes : (q : ℕ) → map.get (plain_blocks entries transfer) q ≡ option_map (patched_zeros [] q) (plain_size entries transfer q) =
-    λ q. found entries transfer q ∙ bytes_chosen (q == 0) (q == 1) (q == 2) (4 * entries) transfer 65536 q in
+    λ q. found entries transfer q ∙ bytes_chosen (q == 0) (q == 1) (q == 2) (4 * entries) transfer RESULT_SIZE q in
     record { sizes_are = λ q. ap (option_map length) (bytes q) ∙ sizes_chosen (plain_size entries transfer q) q; bytes_are = bytes }

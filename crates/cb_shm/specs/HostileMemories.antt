@@ -1,9 +1,8 @@
 -- Which script describes a memory.
 use Rattle.std.specs.Prelude.{◌≡◌, ℕ, ◌+◌, ◌<◌, List, [], ◌∷◌, length, Some}
-use Rattle.cb_shm.specs.declared.entries.CopyEntry.{CopyEntry}
 use Rattle.cb_shm.specs.declared.script.Script.{Script}
 use Rattle.cb_shm.specs.declared.hostile.HostileMemory.{HostileMemory}
-use Rattle.cb_shm.specs.Memory.{MemoryView}
+use Rattle.cb_shm.specs.Memory.{CopyEntry, MemoryView}
 use Rattle.cb_shm.specs.Blocks.{sizes_of, part_of}
 use Rattle.cb_shm.specs.Patched.{ArePatched}
 use Rattle.cb_shm.specs.Hostile.{script_sizes, patches_at, bytes_at, at_number}
@@ -22,13 +21,13 @@ AreScripted s n (c ∷ cs) = IsScripted s n c × AreScripted s (n + 1) cs
 -- the script describes the memory: its regions, each copy so far, what the next copy meets, and what is still to be written
 pub record IsMemoryOf (s : Script) (m : HostileMemory) : Type 0 where
   pub whole : IsWholeScript s
-  pub copies_are : AreScripted s 0 m.copies
-  pub regions_are : ArePatched (script_sizes s) (patches_at s (length m.copies)) m.regions
-  pub waiting_is : (n : ℕ) → length m.copies < n → bucket m.waiting n ≡ at_number n s.timed
+  pub copies_are : AreScripted s 0 m.history.copies
+  pub regions_are : ArePatched (script_sizes s) (patches_at s (length m.history.copies)) m.regions
+  pub waiting_is : (n : ℕ) → length m.history.copies < n → bucket m.waiting n ≡ at_number n s.timed
 
 -- what is seen of it as shared memory
 abbrev pub memory_of : HostileMemory → MemoryView
-memory_of m = record { sizes = sizes_of m.regions; copies = m.copies; puts = m.puts }
+memory_of m = record { sizes = sizes_of m.regions; copies = m.history.copies; puts = m.history.puts }
 
 -- the script that describes one describes the other
 abbrev pub HasSameScript : HostileMemory → HostileMemory → Type 0

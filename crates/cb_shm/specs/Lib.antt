@@ -1,4 +1,5 @@
 pub mod Memory
+pub mod Histories
 pub mod Blocks
 pub mod Patched
 pub mod PlainView

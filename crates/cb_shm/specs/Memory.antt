@@ -1,7 +1,18 @@
 -- What contracts see of shared memory, and what calls do to it.
 use Rattle.std.specs.Prelude.{ℕ, List, [], ◌∷◌, ◌++◌, length, Option}
-use Rattle.cb_shm.specs.declared.entries.CopyEntry.{CopyEntry}
-use Rattle.cb_shm.specs.declared.entries.PutEntry.{PutEntry}
+
+-- a copy that was made: where, and the bytes that it gave
+pub record CopyEntry : Type 0 where
+  pub region : ℕ
+  pub offset : ℕ
+  pub bytes : List ℕ
+
+-- bytes that the service put into a region, and how many copies were made before
+pub record PutEntry : Type 0 where
+  pub region : ℕ
+  pub offset : ℕ
+  pub bytes : List ℕ
+  pub copies : ℕ
 
 -- the size of each region that is there, the copies made so far, and the puts
 pub record MemoryView : Type 0 where

@@ -1,29 +1,28 @@
 //! Memory that a script describes, whose client writes between copies.
-ghost use Rattle.std.specs.Prelude.{◌≡◌, ◌≤◌, ◌*◌, [], IfOk};
+ghost use Rattle.std.specs.Prelude.{◌≡◌, ◌≤◌, ◌*◌, length, IfOk};
 ghost use Rattle.std.specs.FinMap as map;
 ghost use Rattle.cb_shm.specs.Applied.{zero_blocks};
-ghost use Rattle.cb_shm.specs.Whole.{IsWholeScript};
-ghost use Rattle.cb_shm.specs.HostileMemories.{IsMemoryOf};
 
-use crate::log::{list_copy, list_put};
+use crate::history::{Access, History};
 use crate::patching::{apply, come_due, file_all};
 use crate::regions::Regions;
-use crate::{CopyList, PutList, Script, Shm, ShmRefusal};
+use crate::{Script, Shm, ShmRefusal};
 use gl_base::NumberMap;
 use gl_plain::{PatchList, Region};
 use std::alloc::{AllocError, Global};
 
 /// Memory that a script describes. Each copy gives the bytes that the script sets for its number. The memory keeps its own bytes
-/// when the service writes: a put is listed, and changes no byte.
+/// when the service writes: a put changes no byte.
 #[derive(Drop)]
 pub struct HostileMemory {
-    alloc: Global,
     /// The bytes that the next copy will meet.
     regions: Regions,
     /// What is still to be written, by the number of the copy.
     waiting: NumberMap<PatchList>,
-    copies: CopyList,
-    puts: PutList,
+    /// How many copies were made.
+    made: u64,
+    history: History,
+    ghost counted: { made ≡ length history.copies },
 }
 
 /// The ring and the listed regions, all zero.
@@ -40,23 +39,26 @@ fn zero_regions(alloc: Global, entries: u32, listed: &[Region]) -> Result<Region
 }
 
 impl HostileMemory {
+    ghost use Rattle.std.specs.Prelude.{[]};
+    ghost use Rattle.cb_shm.specs.Whole.{IsWholeScript};
+    ghost use Rattle.cb_shm.specs.HostileMemories.{IsMemoryOf, memory_of};
+
     /// The memory of a script, of which no copy was made.
     pub fn new(alloc: Global, script: &Script) -> Result<HostileMemory, AllocError>
         requires { IsWholeScript script.now }
         ensures described { IfOk result (λ memory. IsMemoryOf script.now memory) }
-        ensures no_copies { IfOk result (λ memory. memory.copies ≡ []) }
-        ensures no_puts { IfOk result (λ memory. memory.puts ≡ []) }
+        ensures no_copies { IfOk result (λ memory. (memory_of memory).copies ≡ []) }
+        ensures no_puts { IfOk result (λ memory. (memory_of memory).puts ≡ []) }
     {
         let mut regions = zero_regions(alloc, script.entries, script.regions.as_slice())?;
         apply(&mut regions, script.opening.as_slice());
         let mut waiting = file_all(alloc, script.timed.as_slice())?;
         come_due(&mut regions, &mut waiting, 0);
         Ok(HostileMemory {
-            alloc,
             regions,
             waiting,
-            copies: CopyList::new(alloc),
-            puts: PutList::new(alloc),
+            made: 0,
+            history: History::new(),
         })
     }
 }
@@ -76,26 +78,32 @@ impl Shm for HostileMemory {
         let Some(bytes) = self.regions.part(region, offset, out.len()) else {
             return Err(ShmRefusal::NoRegion);
         };
-        match list_copy(self.alloc, &mut self.copies, region, offset, bytes) {
-            Ok(()) => {
-                out.copy_from_slice(bytes);
-                let next = self.copies.len() as u64;
-                come_due(&mut self.regions, &mut self.waiting, next);
-                Ok(())
-            }
-            Err(_) => Err(ShmRefusal::NoMemory),
-        }
+        let Some(next) = self.made.checked_add(1) else {
+            return Err(ShmRefusal::NoMemory);
+        };
+        let copy = Access::Copy {
+            region,
+            offset,
+            bytes,
+        };
+        self.history = self.history.and(&copy);
+        self.made = next;
+        out.copy_from_slice(bytes);
+        come_due(&mut self.regions, &mut self.waiting, next);
+        Ok(())
     }
 
     fn put(&mut self, region: u32, offset: u32, bytes: &[u8]) -> Result<(), ShmRefusal> {
         if !self.regions.contains(region, offset, bytes.len()) {
             return Err(ShmRefusal::NoRegion);
         }
-        let copies = self.copies.len() as u64;
-        match list_put(self.alloc, &mut self.puts, region, offset, bytes, copies) {
-            Ok(()) => Ok(()),
-            Err(_) => Err(ShmRefusal::NoMemory),
-        }
+        let put = Access::Put {
+            region,
+            offset,
+            bytes,
+        };
+        self.history = self.history.and(&put);
+        Ok(())
     }
 
     ghost grown_itself = { same_script_itself };

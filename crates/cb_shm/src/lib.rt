@@ -2,16 +2,15 @@
 #![tactic(auto)]
 
 mod block;
-mod entries;
+mod history;
 mod hostile;
-mod log;
 mod patching;
 mod plain;
 mod regions;
 mod script;
 mod shm;
 
-pub use entries::{CopyEntry, CopyList, PutEntry, PutList};
+pub use history::{Access, History};
 pub use hostile::HostileMemory;
 pub use plain::PlainMemory;
 pub use script::Script;

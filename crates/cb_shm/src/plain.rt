@@ -5,25 +5,23 @@ ghost use Rattle.gl_plain.specs.Regions.{IsInside};
 ghost use Rattle.cb_shm.specs.Memory.{copied, stored};
 ghost use Rattle.cb_shm.specs.Plain.{new_plain, memory_of, plain_bytes};
 
-use crate::log::{list_copy, list_put};
+use crate::history::{Access, History};
 use crate::regions::Regions;
-use crate::{CopyList, PutList, Shm, ShmRefusal};
+use crate::{Shm, ShmRefusal};
 use std::alloc::{AllocError, Global};
 use std::marker::Model;
 
-/// The bytes of region 2.
+/// How many bytes region 2 has.
 const RESULT_SIZE: u32 = 65536;
 
 /// Memory that no client changes: region 0 is a ring, region 1 has transfer bytes, and region 2 has 65,536. A byte is what was last
 /// put there, and zero at first.
 #[derive(Drop)]
 pub struct PlainMemory {
-    alloc: Global,
     entries: u32,
     transfer: u32,
     regions: Regions,
-    copies: CopyList,
-    puts: PutList,
+    history: History,
 }
 
 impl Model for PlainMemory {
@@ -48,12 +46,10 @@ impl PlainMemory {
         regions.add(alloc, 1, transfer)?;
         regions.add(alloc, 0, 4 * entries)?;
         Ok(PlainMemory {
-            alloc,
             entries,
             transfer,
             regions,
-            copies: CopyList::new(alloc),
-            puts: PutList::new(alloc),
+            history: History::new(),
         })
     }
 
@@ -90,27 +86,28 @@ impl Shm for PlainMemory {
         let Some(bytes) = self.regions.part(region, offset, out.len()) else {
             return Err(ShmRefusal::NoRegion);
         };
-        match list_copy(self.alloc, &mut self.copies, region, offset, bytes) {
-            Ok(()) => {
-                out.copy_from_slice(bytes);
-                Ok(())
-            }
-            Err(_) => Err(ShmRefusal::NoMemory),
-        }
+        let copy = Access::Copy {
+            region,
+            offset,
+            bytes,
+        };
+        self.history = self.history.and(&copy);
+        out.copy_from_slice(bytes);
+        Ok(())
     }
 
     fn put(&mut self, region: u32, offset: u32, bytes: &[u8]) -> Result<(), ShmRefusal> {
         if !self.regions.contains(region, offset, bytes.len()) {
             return Err(ShmRefusal::NoRegion);
         }
-        let copies = self.copies.len() as u64;
-        match list_put(self.alloc, &mut self.puts, region, offset, bytes, copies) {
-            Ok(()) => {
-                self.regions.write(region, offset, bytes);
-                Ok(())
-            }
-            Err(_) => Err(ShmRefusal::NoMemory),
-        }
+        let put = Access::Put {
+            region,
+            offset,
+            bytes,
+        };
+        self.history = self.history.and(&put);
+        self.regions.write(region, offset, bytes);
+        Ok(())
     }
 
     ghost grown_itself = { same_sizes_itself };

@@ -3,12 +3,16 @@ ghost use Rattle.std.specs.Prelude.{◌≡◌, ◌↔◌, length, OnOk, OnErr, E
 ghost use Rattle.gl_plain.specs.Regions.{IsInside};
 ghost use Rattle.cb_shm.specs.Memory.{MemoryView, copied, stored};
 
+use thiserror::Error;
+
 /// Why a copy or a put was not made. Nothing is changed by it.
-#[derive(Clone, Copy, Debug, PartialEq, Eq)]
+#[derive(Clone, Copy, Debug, PartialEq, Eq, Error)]
 pub enum ShmRefusal {
     /// The range is not inside a region.
+    #[error("the range is not inside a region of shared memory")]
     NoRegion,
     /// There was no memory.
+    #[error("no memory for an access to shared memory")]
     NoMemory,
 }
 

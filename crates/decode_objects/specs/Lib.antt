@@ -1,4 +1,3 @@
 -- The definitions that contracts cite.
-pub mod Acts
-pub mod Family
-pub mod Switch
+pub mod States
+pub mod Ready

@@ -4,7 +4,7 @@ use Rattle.std.proofs.Common.{◌≡◌, ◌≢◌, ◌<◌, ℕ, ◌+◌, [], r
 use Rattle.std.proofs.lemmas.Grind.{common_steps}
 use Rattle.std.proofs.lemmas.Bool.Decides.{nat_tests}
 use Rattle.gl_plain.specs.declared.commands.Malformed.{Malformed}
-use Rattle.gl_plain.specs.Ring.{size_in, next_get, first_fault}
+use Rattle.cb_format.specs.Ring.{size_in, next_get, first_fault}
 use Rattle.cb_fetch.specs.Seen.{Reads, Seen, header_read, command_at, copies_at, fault_at, seen_from, seen_first}
 
 unequal : (a b : ℕ) → a ≢ b → eqb a b ≡ false

@@ -1,9 +1,12 @@
-mod Commands
-mod Alone
-mod Carrying
+-- The lemmas that proofs share.
+pub mod Fronts
+mod Payloads
+mod Executions
+mod CarriedOut
 mod ReadSteps
-mod RunsOn
+pub mod RunsOn
 mod Steps
 mod Lefts
 mod Taking
+mod Turns
 mod Joins

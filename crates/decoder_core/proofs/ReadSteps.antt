@@ -3,6 +3,7 @@ use Rattle.std.proofs.Common.{◌≡◌, ◌≢◌, ◌⊎◌, ℕ, ◌+◌, [],
 use Rattle.gl_plain.specs.declared.commands.Fetched.{Fetched}
 use Rattle.gl_plain.specs.declared.commands.Malformed.{Malformed}
 use Rattle.gl_plain.specs.declared.commands.Stop.{Stop}
+use Rattle.gl_driver.specs.History.{History}
 use Rattle.cb_shm.specs.Memory.{MemoryView}
 use Rattle.cb_fetch.specs.FetchViews.{FetchView}
 use Rattle.cb_fetch.specs.Fetching.{DidCopy, DidRead, FoundBad, StoppedBefore, FoundNoMemory}
@@ -10,9 +11,10 @@ use Rattle.cb_fetch.specs.declared.outcome.FetchStop.TheVariants as fetch
 use Rattle.cb_fetch.specs.Seen.{Reads, command_at, copies_at, fault_at}
 use Rattle.cb_fetch.specs.Reading.{IsBegun, IsRead}
 use Rattle.decoder_core.specs.declared.outcome.ServiceStop.TheVariants as stops
-use Rattle.decoder_core.specs.ServiceViews.{ServiceView, get_in, get_of}
-use Rattle.decoder_core.specs.Stepped.{DidFindBad, DidRunShort}
-use Rattle.decoder_core.specs.Standing.{StandsBy, Stands, IsWaiting, IsFault}
+use Rattle.decoder_core.specs.ServiceView.{ServiceView, get_in, get_of}
+use Rattle.decoder_core.specs.Side.{side}
+use Rattle.decoder_core.specs.Step.{DidFindBad, DidRunShort}
+use Rattle.decoder_core.specs.Place.{StandsBy, Stands, IsWaiting, IsFault}
 
 pub place_at : (reads : Reads) (n get : ℕ) → (command_at reads n get).place ≡ get
 unfolding command_at
@@ -58,15 +60,15 @@ module _ (reads : Reads) (sizes : ℕ → Option ℕ) (s : ServiceView) (none : 
       let here : get_in s ≡ s.fetch.get = ap (λ (w : Option Fetched). get_of w s.fetch.get) none in
       ((rw here fault.0, inl (ap (fault_at reads sizes s.fetch.entries s.fetch.put n) here ∙ fault.1)), is ∙ sym here)
 
-module _ (s : ServiceView) (m : MemoryView) (f : FetchView) (m2 : MemoryView) (going : s.stop ≡ None) (none : s.waiting ≡ None) (fetching : s.fetch.stop ≡ None) where
+module _ (s : ServiceView) (m : MemoryView) (f : FetchView) (m2 : MemoryView) (h : History) (going : s.stop ≡ None) (none : s.waiting ≡ None) (fetching : s.fetch.stop ≡ None) where
   -- the service finds a command malformed where its fetcher does
-  pub finds_bad : (stop : Stop) → (FoundBad s.fetch m f m2 stop) ⊎ (StoppedBefore s.fetch m f m2 (fetch.Bad stop)) → DidFindBad s m (record s { fetch = f; stop = Some (stops.Bad stop) }) m2 [] stop
-  finds_bad stop (inl found) = record { going = going; faulty = inl (none, found); after = refl; no_calls = refl }
+  pub finds_bad : (stop : Stop) → (FoundBad s.fetch m f m2 stop) ⊎ (StoppedBefore s.fetch m f m2 (fetch.Bad stop)) → DidFindBad (side s m h) (side (record s { fetch = f; stop = Some (stops.Bad stop) }) m2 h) [] stop
+  finds_bad stop (inl found) = record { going = going; faulty = inl (none, found); after = refl; same_state = refl; untouched = record { no_calls = refl; same_driver = refl } }
   finds_bad stop (inr before) = let no = sym fetching ∙ before.stopped in cc
 
   -- the service runs short of memory where its fetcher does
-  pub runs_short : (FoundNoMemory s.fetch m f m2) ⊎ (StoppedBefore s.fetch m f m2 fetch.NoMemory) → DidRunShort s m (record s { fetch = f; stop = Some stops.NoMemory }) m2 []
-  runs_short (inl found) = record { going = going; short = inl (none, found, refl, refl); after = refl; same = found.same }
+  pub runs_short : (FoundNoMemory s.fetch m f m2) ⊎ (StoppedBefore s.fetch m f m2 fetch.NoMemory) → DidRunShort (side s m h) (side (record s { fetch = f; stop = Some stops.NoMemory }) m2 h) []
+  runs_short (inl found) = record { going = going; short = inl (none, found, refl, record { no_calls = refl; same_driver = refl }); after = refl; same = found.same }
   runs_short (inr before) = let no = sym fetching ∙ before.stopped in cc
 
 -- the fetcher names the command at get

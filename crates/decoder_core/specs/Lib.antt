@@ -1,11 +1,14 @@
 -- The definitions that contracts cite.
-pub mod Stops
-pub mod Decoded
-pub mod ServiceViews
-pub mod ServiceInside
-pub mod Runs
-pub mod Stepped
-pub mod StepContract
-pub mod Standing
-pub mod Served
-pub mod Taken
+pub mod StopOutcomes
+pub mod Execution
+pub mod Decoders
+pub mod ServiceView
+pub mod ServiceInvariant
+pub mod Side
+pub mod RunsSoFar
+pub mod Replying
+pub mod Step
+pub mod Remaining
+pub mod Place
+pub mod Serving
+pub mod Turn

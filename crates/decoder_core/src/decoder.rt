@@ -1,121 +1,66 @@
-//! The decoder: the service's tables, and the execution of one command.
-ghost use Rattle.std.specs.Prelude.{◌≡◌, ◌<◌, length, None, Some};
-ghost use Rattle.gl_plain.specs.Tables.{opening_wire};
-ghost use Rattle.gl_plain.specs.Command.{SetToken, Query, GetError};
-ghost use Rattle.gl_plain.specs.Command as command;
+//! The decoder: the execution of commands one by one, up to a stop.
+ghost use Rattle.std.specs.Prelude.{◌≡◌, None, IfNone, IfSome};
 
-use crate::outcome::{Outcome, stopped};
-use attrib_mgr::Attribs;
-use buffer_mgr::Buffers;
-use decode_objects::object_command;
+use crate::outcome::Outcome;
+use crate::tables::Tables;
 use gl_driver::Driver;
-use gl_plain::{Errors, ExecStop, Fetched, Malformed, Reply};
+use gl_plain::{ExecStop, Fetched};
 use std::alloc::Global;
 
-/// The number of Noop.
-const NOOP: u32 = 0;
-
-/// The number of SetToken.
-const SET_TOKEN: u32 = 1;
-
-/// The number of GetError.
-const GET_ERROR: u32 = 327;
-
-/// The tables of the service.
+/// The tables of the service, and why they execute no more, if they stopped.
 #[derive(Drop)]
 pub struct Decoder {
-    alloc: Global,
-    buffers: Buffers,
-    attribs: Attribs,
-    errors: Errors,
-    token: u32,
+    tables: Tables,
     stop: Option<ExecStop>,
 }
 
 impl Decoder {
-    ghost use Rattle.cb_fetch.specs.Readable.{IsReadable};
-    ghost use Rattle.decoder_core.specs.Decoded.{state_of, Performs, Executes};
+    ghost use Rattle.gl_plain.specs.State.{opening_wire};
     ghost use Rattle.gl_plain.specs.Agreement.{Agrees};
+    ghost use Rattle.cb_fetch.specs.Readable.{IsReadable};
+    ghost use Rattle.decoder_core.specs.StopOutcomes.{result_of, stop_in};
+    ghost use Rattle.decoder_core.specs.Execution.{Performs};
+    ghost use Rattle.decoder_core.specs.Decoders.{decoder_state, decoder_stop, StaysStopped};
 
-    /// The opening state. It takes no memory.
-    pub fn new(alloc: Global) -> Decoder
-        ensures opening { state_of result ≡ opening_wire }
-        ensures going { result.stop ≡ None }
+    /// The opening state, for a default framebuffer of this width and height. It takes no memory.
+    pub fn new(alloc: Global, surface: (u32, u32)) -> Decoder
+        ensures opening { decoder_state result ≡ opening_wire surface }
+        ensures going { decoder_stop result ≡ None }
     {
         Decoder {
-            alloc,
-            buffers: Buffers::new(alloc),
-            attribs: Attribs::new(),
-            errors: Errors::new(),
-            token: 0,
+            tables: Tables::new(alloc, surface),
             stop: None,
         }
     }
 
     /// The token that was set last, or 0.
     pub fn token(&self) -> u32
-        ensures { result ≡ (state_of self.now).token }
+        ensures { result ≡ (decoder_state self.now).token }
     {
-        self.token
-    }
-
-    /// SetToken. A token has 31 bits.
-    fn set_token<D: Driver>(&mut self, command: &Fetched, driver: &mut D) -> Result<Reply, ExecStop>
-        requires readable { IsReadable command.now }
-        requires number { command.now.number ≡ 1 }
-        requires agrees { Agrees (state_of self.old).es (D.history driver.old).state }
-        ensures performs { Performs D.history D.grown command.now (state_of self.old) driver.old (state_of self.new) driver.new result }
-        ensures stop { self.new.stop ≡ self.old.stop }
-    {
-        let token = command.words.as_slice()[0];
-        if token >= 1 << 31 {
-            return Err(ExecStop::Bad(Malformed::InvalidArguments));
-        }
-        self.token = token;
-        Ok(Reply::None)
-    }
-
-    fn perform<D: Driver>(&mut self, command: &Fetched, driver: &mut D) -> Result<Reply, ExecStop>
-        requires readable { IsReadable command.now }
-        requires agrees { Agrees (state_of self.old).es (D.history driver.old).state }
-        ensures performs { Performs D.history D.grown command.now (state_of self.old) driver.old (state_of self.new) driver.new result }
-        ensures stop { self.new.stop ≡ self.old.stop }
-    {
-        if command.number == NOOP {
-            return Ok(Reply::None);
-        }
-        if command.number == SET_TOKEN {
-            return self.set_token(command, driver);
-        }
-        if command.number == GET_ERROR {
-            return Ok(Reply::Error(self.errors.take()));
-        }
-        object_command(
-            self.alloc,
-            &mut self.buffers,
-            &mut self.attribs,
-            &mut self.errors,
-            command.payload.as_slice(),
-            command,
-            driver,
-        )
+        self.tables.token()
     }
 
     /// Executes a command. It sees the command as it was read, and no memory that the client can change. `Bad` where its arguments are
     /// malformed, and then nothing was done. After `Bad`, `Lost` or `NoMemory` it answers that again and makes no driver call.
     pub fn execute<D: Driver>(&mut self, command: &Fetched, driver: &mut D) -> Outcome
         requires readable { IsReadable command.now }
-        requires agrees { self.old.stop ≡ None → Agrees (state_of self.old).es (D.history driver.old).state }
-        ensures { Executes D.history D.grown command.now self.old driver.old self.new driver.new result }
+        requires agrees { IfNone (decoder_stop self.old) (Agrees (decoder_state self.old) (D.history driver.old).state) }
+
+        // Before a stop, the command is one step of OpenGL ES, or the outcome says why not.
+        ensures performs { IfNone (decoder_stop self.old) (Performs D.history D.grown command.now (decoder_state self.old) driver.old (decoder_state self.new) driver.new (result_of result)) }
+        ensures stop { IfNone (decoder_stop self.old) (decoder_stop self.new ≡ stop_in (result_of result)) }
+
+        // Behind one, nothing is done.
+        ensures stopped { IfSome (decoder_stop self.old) (StaysStopped self.old driver.old self.new driver.new result) }
     {
         if let Some(stop) = self.stop {
-            return stopped(stop);
+            return stop.into();
         }
-        match self.perform(command, driver) {
+        match self.tables.execute(command, driver) {
             Ok(reply) => Outcome::Done(reply),
             Err(stop) => {
                 self.stop = Some(stop);
-                stopped(stop)
+                stop.into()
             }
         }
     }

@@ -6,6 +6,7 @@ mod outcome;
 mod replying;
 mod service;
 mod serving;
+mod tables;
 
 pub use decoder::Decoder;
 pub use outcome::{Outcome, ServiceStop, StepOutcome};

@@ -1,14 +1,18 @@
 //! Replies as they are written into shared memory.
 ghost use Rattle.std.specs.Prelude.{◌≡◌, ◌≤◌, ◌*◌, ◌∷◌, length, OnOk, OnErr};
-ghost use Rattle.gl_plain.specs.Replied.{reply_words};
-ghost use Rattle.gl_plain.specs.Layouts.{built_layout};
+ghost use Rattle.gl_plain.specs.Agreement.{Agrees};
+ghost use Rattle.cb_format.specs.Replied.{reply_words};
 ghost use Rattle.cb_fetch.specs.Readable.{IsReadable};
-ghost use Rattle.decoder_core.specs.Stepped.{replied};
+ghost use Rattle.decoder_core.specs.Execution.{state_of};
+ghost use Rattle.decoder_core.specs.Replying.{replied, CarriesOut};
 
+use crate::outcome::ServiceStop;
+use crate::tables::Tables;
 use arrayvec::ArrayVec;
 use byteorder::{ByteOrder, LittleEndian};
 use cb_format::{Plan, plan};
 use cb_shm::{Shm, ShmRefusal};
+use gl_driver::Driver;
 use gl_plain::{Fetched, Reply};
 
 /// How many words a reply has, and then the words.
@@ -29,13 +33,14 @@ fn words(reply: &Reply) -> ArrayVec<u32, 17>
 }
 
 /// Writes the reply of a command where its words say, if they do.
-pub fn write_reply<S: Shm>(shm: &mut S, command: &Fetched, reply: &Reply) -> Result<(), ShmRefusal>
+fn write_reply<S: Shm>(shm: &mut S, command: &Fetched, reply: &Reply) -> Result<(), ShmRefusal>
     requires { IsReadable command.now }
     ensures written { OnOk result (S.memory shm.new ≡ replied (S.memory shm.old) command.now reply.now) }
     ensures refused { OnErr result (S.memory shm.new ≡ S.memory shm.old) }
     ensures grows { S.grown shm.old shm.new }
 {
     match plan(command.number, command.words.as_slice()) {
+        Plan::Nothing | Plan::Read { .. } => Ok(()),
         Plan::Write { region, offset, .. } => {
             let words = words(reply);
             let mut bytes = [0u8; 68];
@@ -43,6 +48,27 @@ pub fn write_reply<S: Shm>(shm: &mut S, command: &Fetched, reply: &Reply) -> Res
             LittleEndian::write_u32_into(words.as_slice(), &mut bytes[..size]);
             shm.put(region, offset, &bytes[..size])
         }
-        _ => Ok(()),
+    }
+}
+
+/// Executes a command, and writes its reply.
+pub fn carry_out<S: Shm, D: Driver>(
+    tables: &mut Tables,
+    command: &Fetched,
+    shm: &mut S,
+    driver: &mut D,
+) -> Result<Reply, ServiceStop>
+    requires readable { IsReadable command.now }
+    requires agrees { Agrees (state_of tables.old) (D.history driver.old).state }
+    ensures carries { CarriesOut D.history D.grown command.now (state_of tables.old) (S.memory shm.old) driver.old (state_of tables.new) (S.memory shm.new) driver.new result }
+    ensures grows { S.grown shm.old shm.new }
+{
+    let reply = match tables.execute(command, driver) {
+        Ok(reply) => reply,
+        Err(stop) => return Err(ServiceStop::at(command.place, stop)),
+    };
+    match write_reply(shm, command, &reply) {
+        Ok(()) => Ok(reply),
+        Err(_) => Err(ServiceStop::NoMemory),
     }
 }

@@ -1,9 +1,10 @@
 //! The service up to put.
 ghost use Rattle.std.specs.Prelude.{◌≡◌, ◌<◌, None};
 ghost use Rattle.gl_plain.specs.Agreement.{Agrees};
-ghost use Rattle.decoder_core.specs.ServiceViews.{IsAtRest};
-ghost use Rattle.decoder_core.specs.Served.{IsServed};
-ghost use Rattle.decoder_core.specs.Taken.{Takes};
+ghost use Rattle.decoder_core.specs.ServiceView.{IsAtRest, wire_of};
+ghost use Rattle.decoder_core.specs.Side.{side};
+ghost use Rattle.decoder_core.specs.Serving.{IsServed};
+ghost use Rattle.decoder_core.specs.Turn.{Takes};
 
 use crate::outcome::{ServiceStop, StepOutcome};
 use crate::service::Service;
@@ -19,16 +20,16 @@ fn one<S: Shm, D: Driver>(
     replies: &mut ReplyList,
 ) -> Result<bool, ServiceStop>
     requires going { service.old.stop ≡ None }
-    requires agrees { Agrees service.old.wire.es (D.history driver.old).state }
-    ensures takes { Takes D.history D.grown service.old (S.memory shm.old) driver.old replies.old service.new (S.memory shm.new) driver.new replies.new result }
+    requires agrees { Agrees (wire_of service.old) (D.history driver.old).state }
+    ensures takes { Takes D.history D.grown (side service.old (S.memory shm.old) driver.old) replies.old (side service.new (S.memory shm.new) driver.new) replies.new result }
     ensures grows { S.grown shm.old shm.new }
 {
     match service.step(shm, driver) {
         StepOutcome::Copied => Ok(true),
-        StepOutcome::Executed(reply) => match replies.push(reply) {
-            Ok(()) => Ok(true),
-            Err(_) => Err(ServiceStop::NoMemory),
-        },
+        StepOutcome::Executed(reply) => {
+            replies.push(reply)?;
+            Ok(true)
+        }
         StepOutcome::Idle => Ok(false),
         StepOutcome::Bad { kind, place } => Err(ServiceStop::Bad(Stop { kind, place })),
         StepOutcome::Lost => Err(ServiceStop::Lost),
@@ -45,15 +46,10 @@ pub fn serve<S: Shm, D: Driver>(
 ) -> Result<(), ServiceStop>
     requires some { 0 < service.old.fetch.entries }
     requires at_rest { IsAtRest service.old }
-    requires agrees { Agrees service.old.wire.es (D.history driver.old).state }
-    ensures served { IsServed D.history D.grown service.old (S.memory shm.old) driver.old replies.old service.new (S.memory shm.new) driver.new replies.new result }
+    requires agrees { Agrees (wire_of service.old) (D.history driver.old).state }
+    ensures served { IsServed D.history D.grown (side service.old (S.memory shm.old) driver.old) replies.old (side service.new (S.memory shm.new) driver.new) replies.new result }
     ensures grows { S.grown shm.old shm.new }
 {
-    'steps: loop {
-        match one(service, shm, driver, replies) {
-            Ok(true) => (),
-            Ok(false) => return Ok(()),
-            Err(stop) => return Err(stop),
-        }
-    }
+    'steps: while one(service, shm, driver, replies)? {}
+    Ok(())
 }

@@ -2,3 +2,4 @@
 pub mod Names
 pub mod Lent
 pub mod ErrorNames
+pub mod Rects

@@ -3,17 +3,22 @@ ghost use Rattle.std.specs.Prelude.{◌≡◌};
 ghost use Rattle.std.specs.Option.{option_copied};
 ghost use Rattle.gl_base.specs.ErrorNames.{error_text};
 
+use crate::enums::{
+    INVALID_ENUM, INVALID_FRAMEBUFFER_OPERATION, INVALID_OPERATION, INVALID_VALUE, NO_ERROR,
+    OUT_OF_MEMORY,
+};
+
 /// The name of an error code, NO_ERROR among them. None for a number that is none of the six.
 pub fn error_name(code: u32) -> Option<&'static str>
     ensures { option_copied result ≡ error_text code }
 {
     match code {
-        0 => Some("NO_ERROR"),
-        0x0500 => Some("INVALID_ENUM"),
-        0x0501 => Some("INVALID_VALUE"),
-        0x0502 => Some("INVALID_OPERATION"),
-        0x0505 => Some("OUT_OF_MEMORY"),
-        0x0506 => Some("INVALID_FRAMEBUFFER_OPERATION"),
+        NO_ERROR => Some("NO_ERROR"),
+        INVALID_ENUM => Some("INVALID_ENUM"),
+        INVALID_VALUE => Some("INVALID_VALUE"),
+        INVALID_OPERATION => Some("INVALID_OPERATION"),
+        OUT_OF_MEMORY => Some("OUT_OF_MEMORY"),
+        INVALID_FRAMEBUFFER_OPERATION => Some("INVALID_FRAMEBUFFER_OPERATION"),
         _ => None,
     }
 }

@@ -1,13 +1,12 @@
 -- What contracts see of a driver, and what calls do to it.
-use Rattle.std.specs.Prelude.{◌≡◌, ◌<◌, ◌≤◌, ◌-◌, ◌^◌, ◌⊎◌, ℕ, List, [], ◌∷◌, ◌++◌, Option, None, Some, Result, Ok, Err}
-use Rattle.gl_plain.specs.Tables.{DriverState}
+use Rattle.std.specs.Prelude.{◌≡◌, ◌<◌, ◌≤◌, ◌-◌, ◌^◌, ◌⊎◌, ℕ, Bool, true, false, List, [], ◌∷◌, ◌++◌, Option, None, Some, Result, Ok, Err}
+use Rattle.std.specs.List.{list_any}
+use Rattle.gl_plain.specs.State.{DriverState}
 use Rattle.gl_plain.specs.Journal.{IsLegal, state_after}
 use Rattle.gl_plain.specs.declared.driver_calls.DriverEntry.{DriverEntry}
 use Rattle.gl_plain.specs.declared.driver_calls.DriverCall.{DriverCall}
 use Rattle.gl_plain.specs.declared.driver_calls.Answer.{Answer}
-use Rattle.gl_plain.specs.declared.driver_calls.Answer.TheVariants as answers
-use Rattle.gl_plain.specs.declared.driver_calls.Stored.{Stored}
-use Rattle.gl_plain.specs.declared.driver_calls.Stored.TheVariants as room
+use Rattle.gl_plain.specs.declared.driver_calls.Answer.TheVariants.{Done, Name, Oom}
 use Rattle.gl_driver.specs.declared.stop.DriverStop.{DriverStop}
 use Rattle.gl_driver.specs.declared.stop.DriverStop.TheVariants.{Lost}
 
@@ -23,15 +22,33 @@ pub record History : Type 0 where
 abbrev pub Rose : ℕ → ℕ → Type 0
 Rose before now = (before < now) ⊎ (2 ^ 64 - 1 ≤ now)
 
+-- there was no room
+abbrev pub is_oom : Answer → Bool
+is_oom Done = false
+is_oom (Name name) = false
+is_oom Oom = true
+
+-- an entry says that there was no room
+abbrev pub has_oom : List DriverEntry → Bool
+has_oom entries = list_any (λ (e : DriverEntry). is_oom e.answer) entries
+
+-- The stop and the counts of a driver: a stop stays; the count of losses stands still where the driver is not lost, and that of Oom where
+-- no entry has that answer; a driver is lost where the count rose or it was lost before.
+pub record Counted (old new : History) (entries : List DriverEntry) : Type 0 where
+  pub kept : (s : DriverStop) → old.stop ≡ Some s → new.stop ≡ Some s
+  pub losses : old.losses ≤ new.losses
+  pub ooms : old.ooms ≤ new.ooms
+  pub lost : new.stop ≡ Some Lost → Rose old.losses new.losses ⊎ (old.stop ≡ Some Lost)
+  pub losses_still : (new.stop ≡ Some Lost) ⊎ (new.losses ≡ old.losses)
+  pub ooms_still : has_oom entries ≡ false → new.ooms ≡ old.ooms
+
 -- between the two values of a driver these entries were made, each legal, and nothing else
 pub record Served {D : Type 0} (history : D → History) (grown : D → D → Type 0) (old new : D) (entries : List DriverEntry) : Type 0 where
   pub grows : grown old new
   pub journal : (history new).journal ≡ (history old).journal ++ entries
   pub legal : IsLegal (history old).state entries
   pub state : (history new).state ≡ state_after (history old).state entries
-  pub losses : (history old).losses ≤ (history new).losses
-  pub ooms : (history old).ooms ≤ (history new).ooms
-  pub lost : (history new).stop ≡ Some Lost → Rose (history old).losses (history new).losses ⊎ ((history old).stop ≡ Some Lost)
+  pub counted : Counted (history old) (history new) entries
 
 -- the stop that a result is, if it is one
 abbrev pub stop_of : {T : Type 0} → Result T DriverStop → Option DriverStop
@@ -50,9 +67,4 @@ entered (Err e) call answer = []
 
 -- the answer of a call that gives nothing back
 abbrev pub done : Unit {0} → Answer
-done u = answers.Done
-
--- the answer of a call that asks for room
-abbrev pub stored_answer : Stored → Answer
-stored_answer room.Done = answers.Done
-stored_answer room.Oom = answers.Oom
+done u = Done

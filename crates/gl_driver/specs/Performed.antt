@@ -1,29 +1,38 @@
 -- What a command did, by what it means: to the state of whoever executes it, and to the driver.
-use Rattle.std.specs.Prelude.{◌≡◌, ◌⊎◌, true, false, List, [], Some, Result, Ok, Err}
+use Rattle.std.specs.Prelude.{◌≡◌, ◌⊎◌, ℕ, true, false, List, [], ◌∷◌, ◌++◌, Option, Some, Result, Ok, Err, IfOk}
+use Rattle.gl_plain.specs.declared.driver_calls.DriverCall.{DriverCall}
 use Rattle.gl_plain.specs.declared.driver_calls.DriverEntry.{DriverEntry}
 use Rattle.gl_plain.specs.declared.calls.Reply.{Reply}
+use Rattle.gl_plain.specs.declared.commands.Command.{Command}
 use Rattle.gl_plain.specs.declared.commands.Malformed.{Malformed}
 use Rattle.gl_plain.specs.declared.commands.Malformed.TheVariants.{InvalidArguments}
 use Rattle.gl_plain.specs.declared.stop.ExecStop.{ExecStop}
 use Rattle.gl_plain.specs.declared.stop.ExecStop.TheVariants.{Bad, Lost, NoMemory}
-use Rattle.gl_plain.specs.Oracle.{Oracle, told}
-use Rattle.gl_plain.specs.Meaning.{Meaning}
-use Rattle.gl_plain.specs.Part.{IsPartOf, IsFairFrontOf, IsProperFrontOf}
-use Rattle.gl_driver.specs.History.{History, Rose}
+use Rattle.gl_plain.specs.Oracle.{Oracle}
+use Rattle.gl_plain.specs.driver.Answers.{told}
+use Rattle.gl_plain.specs.State.{WireState}
+use Rattle.gl_plain.specs.Meaning.{Meaning, meaning_by}
+use Rattle.gl_plain.specs.Parts.{calls_in, IsPartOf, IsFairFrontOf, IsProperFrontOf}
+use Rattle.gl_plain.specs.Agreement.{Agrees}
+use Rattle.gl_plain.specs.Lawful.{Keeps}
+use Rattle.gl_driver.specs.History.{History, Served, Rose}
+use Rattle.gl_driver.specs.declared.stop.DriverStop.{DriverStop}
 use Rattle.gl_driver.specs.declared.stop.DriverStop.TheVariants as driver
 
--- the command was one step with the driver's answers, and its entries are its part
-pub record Did {S : Type 0} (m : Meaning S) (entries : List DriverEntry) (after : S) (reply : Reply) : Type 0 where
+-- the command was one step with the driver's answers, its entries are its part, and the driver's stop is as before
+pub record Did {S : Type 0} (m : Meaning S) (old new : History) (entries : List DriverEntry) (after : S) (reply : Reply) : Type 0 where
   pub fair : m.bad ≡ false
   pub step : (rest : Oracle) → m.step (told entries rest) ≡ record { state = after; oracle = rest; reply = reply }
   pub part : (rest : Oracle) → IsPartOf m.calls (told entries rest) entries
+  pub stop : new.stop ≡ old.stop
 
--- the command is malformed: it made no call and changed nothing
-pub record WasBad {S : Type 0} (m : Meaning S) (entries : List DriverEntry) (before after : S) (kind : Malformed) : Type 0 where
+-- the command is malformed: it made no call, and changed nothing, also of the driver
+pub record WasBad {S : Type 0} (m : Meaning S) (old new : History) (entries : List DriverEntry) (before after : S) (kind : Malformed) : Type 0 where
   pub bad : m.bad ≡ true
   pub kind_is : kind ≡ InvalidArguments
   pub no_calls : entries ≡ []
   pub same : after ≡ before
+  pub same_driver : new ≡ old
 
 -- the driver was lost at a call of the command
 pub record WasLost {S : Type 0} (m : Meaning S) (old new : History) (entries : List DriverEntry) : Type 0 where
@@ -34,7 +43,32 @@ pub record WasLost {S : Type 0} (m : Meaning S) (old new : History) (entries : L
 
 -- what a result says; for want of memory, that the entries are the first of the command's part, or all, and none of a malformed one
 abbrev pub IsOutcome : {S : Type 0} → Meaning S → History → History → List DriverEntry → S → S → Result Reply ExecStop → Type 0
-IsOutcome m old new entries before after (Ok reply) = Did m entries after reply
-IsOutcome m old new entries before after (Err (Bad kind)) = WasBad m entries before after kind
+IsOutcome m old new entries before after (Ok reply) = Did m old new entries after reply
+IsOutcome m old new entries before after (Err (Bad kind)) = WasBad m old new entries before after kind
 IsOutcome m old new entries before after (Err Lost) = WasLost m old new entries
 IsOutcome m old new entries before after (Err NoMemory) = IsFairFrontOf m.bad m.calls entries
+
+-- The whole contract of a command: it did what it means. The parts of the state that it is lent stand in `before` and `after`, whatever
+-- the other parts are.
+pub record Acts {D : Type 0} (history : D → History) (grown : D → D → Type 0) (m : WireState → Meaning WireState) (before after : WireState → WireState) (d d2 : D) (result : Result Reply ExecStop) : Type 0 where
+  pub entries : List DriverEntry
+  pub served : Served history grown d d2 entries
+  pub outcome : (s : WireState) → IsOutcome (m (before s)) (history d) (history d2) entries (before s) (after s) result
+
+-- The whole contract of a family of commands: the command, if one is spelled, did what it means, and keeps to the laws.
+pub record IsLawful {D : Type 0} (history : D → History) (grown : D → D → Type 0) (c : Option Command) (payload : List ℕ) (before after : WireState → WireState) (d d2 : D) (result : Result Reply ExecStop) : Type 0 where
+  pub acts : Acts history grown (λ w. meaning_by w c payload) before after d d2 result
+  pub keeps : IfOk result (λ reply. (s : WireState) → Agrees (before s) (history d).state → Keeps c (before s) (history d).state acts.entries (after s) (history d2).state)
+
+-- behind these entries a command goes on as one with another meaning
+pub record Leads {S : Type 0} (m m1 : Meaning S) (entries : List DriverEntry) : Type 0 where
+  pub fair : m.bad ≡ false
+  pub fair_after : m1.bad ≡ false
+  pub step : (o : Oracle) → m.step (told entries o) ≡ m1.step o
+  pub calls : (o : Oracle) → m.calls (told entries o) ≡ calls_in entries ++ m1.calls o
+
+-- these entries were made since, and with the calls that are left they are all of these calls
+pub record Underway {D : Type 0} (history : D → History) (grown : D → D → Type 0) (d d2 : D) (calls left : List DriverCall) : Type 0 where
+  pub entries : List DriverEntry
+  pub served : Served history grown d d2 entries
+  pub so_far : calls_in entries ++ left ≡ calls

@@ -1,10 +1,11 @@
 //! The trait of drivers.
 ghost use Rattle.std.specs.Prelude.{◌≡◌, IfOk};
-ghost use Rattle.gl_plain.specs.Allowed.{IsAllowed};
+ghost use Rattle.gl_plain.specs.driver.Allowed.{IsAllowed};
+ghost use Rattle.gl_plain.specs.driver.Answers.{stored_answer};
 ghost use Rattle.gl_plain.specs.declared.driver_calls.DriverCall.TheVariants.{Object};
 ghost use Rattle.gl_plain.specs.declared.driver_calls.ObjectDriver.TheVariants.{GenBuffer, BindBuffer, BufferData, BufferSubData, DeleteBuffer, VertexAttrib4, VertexAttribPointer, SetArray};
 ghost use Rattle.gl_plain.specs.declared.driver_calls.Answer.TheVariants.{Name};
-ghost use Rattle.gl_driver.specs.History.{History, Served, Caused, Rose, entered, done, stored_answer};
+ghost use Rattle.gl_driver.specs.History.{History, Served, Caused, Rose, entered, done};
 
 use crate::stop::DriverStop;
 use gl_base::GlEnum;

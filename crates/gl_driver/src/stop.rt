@@ -1,13 +1,16 @@
 //! Why a driver makes no more calls.
 
 use gl_plain::ExecStop;
+use thiserror::Error;
 
 /// Why a driver makes no more calls. Each later call gives the same answer.
-#[derive(Clone, Copy, Debug, PartialEq, Eq)]
+#[derive(Clone, Copy, Debug, PartialEq, Eq, Error)]
 pub enum DriverStop {
     /// The driver was lost. The call that met it is not entered in the journal.
+    #[error("the driver was lost")]
     Lost,
     /// There was no memory. The call is not entered in the journal.
+    #[error("no memory for a driver call")]
     NoMemory,
 }
 

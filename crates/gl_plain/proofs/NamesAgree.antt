@@ -4,10 +4,7 @@ use Rattle.std.specs.Ordering.{nat_cmp}
 use Rattle.std.specs.FinMap.{get, remove}
 use Rattle.std.specs.FinSet as set
 use Rattle.gl_plain.specs.declared.objects.Name.{Name}
-use Rattle.gl_plain.specs.Tables.{Names}
-use Rattle.gl_plain.specs.Allowed.{IsFresh}
-use Rattle.gl_plain.specs.Effect.{new_name, named, made_object}
-use Rattle.gl_plain.specs.Agreement.{NamesAgree}
+use Rattle.gl_plain.specs.subjects.Names.{Names, new_name, named, made_object, IsFresh, NamesAgree}
 use Rattle.gl_base.proofs.Found.{get-insert_here, get-insert_other, found-insert, get-remove_other, found-remove, contains-insert_here, contains-insert_kept}
 
 same_value : (x y : Name) → Some x ≡ Some y → y ≡ x

@@ -1,5 +1,5 @@
 -- Worked rows, as the definitions answer them.
-use Rattle.std.proofs.Common.{◌≡◌, ℕ, [], ◌∷◌, ◌==◌, if◌then◌else◌, Option, None, Some, refl, true, false}
+use Rattle.std.proofs.Common.{◌≡◌, ℕ, [], ◌∷◌, Option, None, Some, refl, true, false}
 use Rattle.std.specs.Prelude.{pos, negsuc}
 use Rattle.std.specs.Ordering.{nat_cmp}
 use Rattle.std.specs.FinMap as map
@@ -9,51 +9,35 @@ use Rattle.gl_base.specs.Names.{is_ordinary}
 use Rattle.gl_base.specs.declared.gl_enum.GlEnum.{GlEnum}
 use Rattle.gl_plain.specs.declared.objects.Name.{Name}
 use Rattle.gl_plain.specs.declared.objects.Buffer.{Buffer}
-use Rattle.gl_plain.specs.declared.commands.Malformed.TheVariants.{InvalidSize, OutOfBounds, UnknownCommand, InvalidArguments}
 use Rattle.gl_plain.specs.declared.errors.GlError.TheVariants.{InvalidEnum, InvalidValue, InvalidOperation, OutOfMemory}
-use Rattle.gl_plain.specs.Layouts.{layout_of}
-use Rattle.gl_plain.specs.Plans.{plan_of}
-use Rattle.gl_plain.specs.Command as command
-use Rattle.gl_plain.specs.Command.{command_in, Object, BufferData, SetToken}
-use Rattle.gl_plain.specs.Effect.{new_name, with_name, with_bind, deleted, without_buffer}
-use Rattle.gl_plain.specs.AttribEffect.{attribute, with_enabled, with_constant, with_array, array_of, without_object}
-use Rattle.gl_plain.specs.Refusal.{buffer_data_refusal, gen_refusal, buffer_sub_data_refusal, range_refusal, attrib_refusal, vertex_attrib_pointer_refusal}
-use Rattle.gl_plain.specs.Malformed.{is_bad_bind, has_no_data, has_needed_data, has_just_needed_data, data_needed, has_bad_arguments}
-use Rattle.gl_plain.specs.Errors.{no_errors, noted, least, cleared, code_given}
-use Rattle.gl_plain.specs.Replied.{reply_bytes}
+use Rattle.gl_plain.specs.declared.errors.Errors.{Errors}
 use Rattle.gl_plain.specs.declared.attributes.VertexAttributes.{VertexAttributes}
 use Rattle.gl_plain.specs.declared.commands.DataWords.{DataWords}
-use Rattle.gl_plain.specs.declared.errors.Errors.{Errors}
-use Rattle.gl_plain.specs.declared.calls.Reply.TheVariants.{Error}
-use Rattle.gl_plain.specs.Ring.{first_fault, range_fault}
-use Rattle.gl_plain.specs.Tables.{BufferTables, no_buffers, no_arrays, bound, opening_wire}
+use Rattle.gl_plain.specs.declared.commands.Command.TheVariants.{Object, SetToken}
+use Rattle.gl_plain.specs.declared.commands.ObjectCommand.TheVariants as command
+use Rattle.gl_plain.specs.subjects.Names.{new_name, gen_refusal}
+use Rattle.gl_plain.specs.subjects.Data.{has_no_data, has_needed_data, has_just_needed_data, data_needed}
+use Rattle.gl_plain.specs.subjects.Buffers.{BufferTables, no_buffers, bound, gen_buffers_effect, bind_buffer_is_bad, bind_buffer_effect, buffer_data_refusal, buffer_sub_data_refusal, range_refusal, delete_buffers_effect, without_buffer}
+use Rattle.gl_plain.specs.subjects.Attributes.{no_arrays, attribute, attribute_refusal, array_of, vertex_attrib_4f_effect, vertex_attrib_pointer_effect, vertex_attrib_pointer_refusal, set_array_effect, all_outside}
+use Rattle.gl_plain.specs.Errors.{no_errors, noted, least, cleared, code_given}
+use Rattle.gl_plain.specs.State.{opening_wire}
+use Rattle.gl_plain.specs.Commands.{command_in, is_known}
+use Rattle.gl_plain.specs.Wire.{is_bad}
 
--- the tests of a header, in their order: put at the number of entries, a size of 0, more than is ready, also at the ring's end, a number
--- that no command has, a size that is not the layout's
-headers : (first_fault 4 4 0 0 ≡ Some OutOfBounds) × (first_fault 4 1 0 0 ≡ Some InvalidSize) × (first_fault 4 1 0 0x00200002 ≡ Some OutOfBounds)
-    × (first_fault 4 0 3 0x00200002 ≡ Some OutOfBounds) × (first_fault 8 4 3 0xFFE00001 ≡ Some UnknownCommand) × (first_fault 8 4 0 0x00200003 ≡ Some InvalidArguments)
-    × (first_fault 8 4 0 0x20200003 ≡ Some InvalidArguments) × (first_fault 8 4 0 0x20200002 ≡ None) × (first_fault 8 0 6 0x00200002 ≡ None) × (first_fault 8 4 0 4 ≡ None)
-unfolding first_fault layout_of
-headers = (refl, refl, refl, refl, refl, refl, refl, refl, refl, refl)
-
-abbrev one_region : ℕ → Option ℕ
-one_region region = if region == 1 then Some 8 else None
-
--- the words of GetError name a range of 8 bytes
-ranges : (range_fault one_region (plan_of 327 (1 ∷ 0 ∷ [])) ≡ None) × (range_fault one_region (plan_of 327 (1 ∷ 1 ∷ [])) ≡ Some OutOfBounds) × (range_fault one_region (plan_of 327 (2 ∷ 0 ∷ [])) ≡ Some OutOfBounds)
-unfolding layout_of
-ranges = (refl, refl, refl)
+-- which commands are built so far
+built : (is_known 0 ≡ true) × (is_known 1 ≡ true) × (is_known 2 ≡ false) × (is_known 256 ≡ false) × (is_known 261 ≡ true) × (is_known 262 ≡ false) × (is_known 292 ≡ false) × (is_known 296 ≡ true) × (is_known 297 ≡ false) × (is_known 327 ≡ true)
+built = (refl, refl, refl, refl, refl, refl, refl, refl, refl, refl)
 
 abbrev enum : ℕ → GlEnum
 enum n = record { 0 = n }
 
 -- what the words mean: a size is signed
-spelled_words : command_in 259 (0x8892 ∷ 0xFFFFFFFF ∷ 0x88E4 ∷ 0 ∷ 0 ∷ 0 ∷ 0 ∷ []) []
-    ≡ Object (BufferData (enum 0x8892) (negsuc 0) (enum 0x88E4) (record { source = 0; count = 0; a = 0; b = 0 }) [])
+spelled_words : command_in 259 (0x8892 ∷ 0xFFFFFFFF ∷ 0x88E4 ∷ 0 ∷ 0 ∷ 0 ∷ 0 ∷ [])
+    ≡ Some (Object (command.BufferData (enum 0x8892) (negsuc 0) (enum 0x88E4) (record { source = 0; count = 0; a = 0; b = 0 })))
 spelled_words = refl
 
 -- ids on both sides of the limits
-ordinary_ids : (is_bad_bind 0 ≡ false) × (is_bad_bind 1 ≡ false) × (is_bad_bind 0xFFFFFEFF ≡ false) × (is_bad_bind 0xFFFFFF00 ≡ false) × (is_bad_bind 0xFFFFFF10 ≡ false) × (is_bad_bind 0xFFFFFF11 ≡ true)
+ordinary_ids : (bind_buffer_is_bad 0 ≡ false) × (bind_buffer_is_bad 1 ≡ false) × (bind_buffer_is_bad 0xFFFFFEFF ≡ false) × (bind_buffer_is_bad 0xFFFFFF00 ≡ false) × (bind_buffer_is_bad 0xFFFFFF10 ≡ false) × (bind_buffer_is_bad 0xFFFFFF11 ≡ true)
 ordinary_ids = (refl, refl, refl, refl, refl, refl)
 
 -- the errors of BufferData, in their order: where several hold, the first is recorded
@@ -69,7 +53,7 @@ gen_errors : (gen_refusal map.empty (pos 1) ≡ None) × (gen_refusal map.empty 
 gen_errors = (rw (len_retain-empty Name is_ordinary) refl, rw (len_retain-empty Name is_ordinary) refl, refl)
 
 -- a name that is bound for the first time is an empty buffer with STATIC_DRAW
-first_bind : bound (with_bind (with_name no_buffers 7 1) (enum 0x8893) 7) (enum 0x8893) ≡ Some (record { bytes = []; usage = enum 0x88E4 })
+first_bind : bound (bind_buffer_effect (gen_buffers_effect no_buffers 7 1) (enum 0x8893) 7) (enum 0x8893) ≡ Some (record { bytes = []; usage = enum 0x88E4 })
 first_bind = rw (get-insert_here (map.empty {X = Name} {R = nat_cmp}) 7 (new_name 1)) (get-insert_here (map.empty {X = Buffer} {R = nat_cmp}) 1 _)
 
 abbrev data_words : ℕ → ℕ → ℕ → ℕ → DataWords
@@ -82,7 +66,7 @@ data_rules : (has_no_data (data_words 0 0 0 0) ≡ true) × (has_no_data (data_w
 data_rules = (refl, refl, refl, refl, refl, refl, refl, refl)
 
 -- a token has 31 bits
-tokens : (has_bad_arguments opening_wire (SetToken 0x7FFFFFFF) ≡ false) × (has_bad_arguments opening_wire (SetToken 0x80000000) ≡ true)
+tokens : (is_bad (opening_wire (64, 64)) (SetToken 0x7FFFFFFF) ≡ false) × (is_bad (opening_wire (64, 64)) (SetToken 0x80000000) ≡ true)
 tokens = (refl, refl)
 
 -- GetError gives the least code first, and then the next one
@@ -92,16 +76,13 @@ two_codes = noted (noted no_errors OutOfMemory) InvalidValue
 codes_in_order : (code_given (least two_codes) ≡ 0x0501) × (code_given (least (cleared two_codes (least two_codes))) ≡ 0x0505) × (code_given (least no_errors) ≡ 0)
 codes_in_order = (refl, refl, refl)
 
--- a reply of one word is eight bytes
-reply_in_bytes : reply_bytes (Error 0x0500) ≡ 1 ∷ 0 ∷ 0 ∷ 0 ∷ 0 ∷ 5 ∷ 0 ∷ 0 ∷ []
-reply_in_bytes = refl
-
 -- what the words mean: offset and size are signed, and a boolean is true where its word is not 0
-sub_data_words : command_in 260 (0x8893 ∷ 2 ∷ 0xFFFFFFFD ∷ 1 ∷ 3 ∷ 1 ∷ 0 ∷ []) (7 ∷ [])
-    ≡ Object (command.BufferSubData (enum 0x8893) (pos 2) (negsuc 2) (record { source = 1; count = 3; a = 1; b = 0 }) (7 ∷ []))
+sub_data_words : command_in 260 (0x8893 ∷ 2 ∷ 0xFFFFFFFD ∷ 1 ∷ 3 ∷ 1 ∷ 0 ∷ [])
+    ≡ Some (Object (command.BufferSubData (enum 0x8893) (pos 2) (negsuc 2) (record { source = 1; count = 3; a = 1; b = 0 })))
 sub_data_words = refl
 
-pointer_words : command_in 294 (15 ∷ 3 ∷ 0x1406 ∷ 7 ∷ 12 ∷ 4 ∷ []) [] ≡ Object (command.VertexAttribPointer 15 (pos 3) (enum 0x1406) true (pos 12) 4)
+pointer_words : command_in 294 (15 ∷ 3 ∷ 0x1406 ∷ 7 ∷ 12 ∷ 4 ∷ [])
+    ≡ Some (Object (command.VertexAttribPointer 15 (record { size = pos 3; kind = enum 0x1406; normalized = true; stride = pos 12; offset = 4 })))
 pointer_words = refl
 
 -- data of no bytes may come from no source, and from shared memory; more may not
@@ -122,7 +103,7 @@ ranges_of_buffers : (range_refusal four_bytes 2 2 ≡ None) × (range_refusal fo
 ranges_of_buffers = (refl, refl, refl, refl)
 
 -- there are sixteen vertex attributes
-attrib_errors : (attrib_refusal 15 ≡ None) × (attrib_refusal 16 ≡ Some InvalidValue)
+attrib_errors : (attribute_refusal 15 ≡ None) × (attribute_refusal 16 ≡ Some InvalidValue)
 attrib_errors = (refl, refl)
 
 -- the errors of VertexAttribPointer, in their order
@@ -134,15 +115,15 @@ pointer_errors = (refl, refl, refl, refl, refl, refl, refl, refl)
 
 -- an array that is pointed at lies in the buffer that is bound then, and in none once that is deleted; it keeps the rest
 abbrev pointed : VertexAttributes
-pointed = with_array no_arrays 3 (array_of (record no_buffers { array = 1 }) (pos 2) (enum 0x1402) true (pos 8) 4)
+pointed = vertex_attrib_pointer_effect no_arrays 3 (array_of (record no_buffers { array = 1 }) (pos 2) (enum 0x1402) true (pos 8) 4)
 
-pointed_at : ((attribute pointed 3).array.object ≡ Some 1) × ((attribute pointed 3).array.offset ≡ 4) × ((attribute (without_object pointed 1) 3).array.object ≡ None) × ((attribute (without_object pointed 1) 3).array.offset ≡ 4)
-    × ((attribute (without_object pointed 2) 3).array.object ≡ Some 1)
+pointed_at : ((attribute pointed 3).array.object ≡ Some 1) × ((attribute pointed 3).array.offset ≡ 4) × ((attribute (all_outside pointed 1) 3).array.object ≡ None) × ((attribute (all_outside pointed 1) 3).array.offset ≡ 4)
+    × ((attribute (all_outside pointed 2) 3).array.object ≡ Some 1)
 pointed_at = (refl, refl, refl, refl, refl)
 
 -- a change of one attribute leaves the others
-others_kept : ((attribute (with_enabled no_arrays 3 true) 3).enabled ≡ true) × ((attribute (with_enabled no_arrays 3 true) 4).enabled ≡ false)
-    × ((attribute (with_constant no_arrays 15 (1 ∷ 2 ∷ 3 ∷ 4 ∷ [])) 15).constant ≡ 1 ∷ 2 ∷ 3 ∷ 4 ∷ []) × ((attribute (with_constant no_arrays 15 (1 ∷ 2 ∷ 3 ∷ 4 ∷ [])) 0).constant ≡ 0 ∷ 0 ∷ 0 ∷ 0x3F800000 ∷ [])
+others_kept : ((attribute (set_array_effect no_arrays 3 true) 3).enabled ≡ true) × ((attribute (set_array_effect no_arrays 3 true) 4).enabled ≡ false)
+    × ((attribute (vertex_attrib_4f_effect no_arrays 15 (1 ∷ 2 ∷ 3 ∷ 4 ∷ [])) 15).constant ≡ 1 ∷ 2 ∷ 3 ∷ 4 ∷ []) × ((attribute (vertex_attrib_4f_effect no_arrays 15 (1 ∷ 2 ∷ 3 ∷ 4 ∷ [])) 0).constant ≡ 0 ∷ 0 ∷ 0 ∷ 0x3F800000 ∷ [])
 others_kept = (refl, refl, refl, refl)
 
 -- two buffers are bound
@@ -150,5 +131,5 @@ abbrev two_bound : BufferTables
 two_bound = record no_buffers { array = 1; element = 2 }
 
 -- a deleted buffer is bound no more; to delete 0, or a name that is not in use, changes nothing
-bound_no_more : ((without_buffer two_bound 7 1).array ≡ 0) × ((without_buffer two_bound 7 1).element ≡ 2) × (deleted no_buffers 0 ≡ no_buffers) × (deleted no_buffers 7 ≡ no_buffers)
+bound_no_more : ((without_buffer two_bound 7 1).array ≡ 0) × ((without_buffer two_bound 7 1).element ≡ 2) × (delete_buffers_effect no_buffers 0 ≡ no_buffers) × (delete_buffers_effect no_buffers 7 ≡ no_buffers)
 bound_no_more = (refl, refl, rw (map.get-empty {X = Name} nat_cmp 0) refl, rw (map.get-empty {X = Name} nat_cmp 7) refl)

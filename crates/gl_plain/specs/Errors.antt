@@ -1,16 +1,17 @@
 -- Error codes and their flags (OpenGL ES 2.0.25, section 2.5).
 use Rattle.std.specs.Prelude.{ℕ, true, false, if◌then◌else◌, Option, None, Some}
+use Rattle.gl_base.specs.declared.enums.TheConstants.{NO_ERROR, INVALID_ENUM, INVALID_VALUE, INVALID_OPERATION, OUT_OF_MEMORY, INVALID_FRAMEBUFFER_OPERATION}
 use Rattle.gl_plain.specs.declared.errors.GlError.{GlError}
 use Rattle.gl_plain.specs.declared.errors.GlError.TheVariants.{InvalidEnum, InvalidValue, InvalidOperation, OutOfMemory, InvalidFramebufferOperation}
 use Rattle.gl_plain.specs.declared.errors.Errors.{Errors}
 
 -- the number of a code
 abbrev pub code_of : GlError → ℕ
-code_of InvalidEnum = 0x0500
-code_of InvalidValue = 0x0501
-code_of InvalidOperation = 0x0502
-code_of OutOfMemory = 0x0505
-code_of InvalidFramebufferOperation = 0x0506
+code_of InvalidEnum = INVALID_ENUM
+code_of InvalidValue = INVALID_VALUE
+code_of InvalidOperation = INVALID_OPERATION
+code_of OutOfMemory = OUT_OF_MEMORY
+code_of InvalidFramebufferOperation = INVALID_FRAMEBUFFER_OPERATION
 
 -- no code is recorded
 abbrev pub no_errors : Errors
@@ -45,5 +46,5 @@ cleared e (Some InvalidFramebufferOperation) = record e { invalid_framebuffer_op
 
 -- what GetError answers: a code, or NO_ERROR, which is 0
 abbrev pub code_given : Option GlError → ℕ
-code_given None = 0
+code_given None = NO_ERROR
 code_given (Some e) = code_of e

@@ -1,9 +1,11 @@
 -- The journal of a driver: its calls and their answers, in order.
-use Rattle.std.specs.Prelude.{List, [], ◌∷◌}
+use Rattle.std.specs.Prelude.{List, [], ◌∷◌, ◌++◌}
 use Rattle.gl_plain.specs.declared.driver_calls.DriverEntry.{DriverEntry}
-use Rattle.gl_plain.specs.Tables.{DriverState}
-use Rattle.gl_plain.specs.Allowed.{IsAllowed, IsAnswer}
-use Rattle.gl_plain.specs.DriverEffect.{driver_after}
+use Rattle.gl_plain.specs.State.{DriverState}
+use Rattle.gl_plain.specs.driver.Allowed.{IsAllowed}
+use Rattle.gl_plain.specs.driver.Answers.{IsAnswer}
+use Rattle.gl_plain.specs.driver.Effect.{driver_after}
+use Rattle.gl_plain.specs.Records.{Record, call_records}
 
 -- the state that an entry leaves
 abbrev pub entry_after : DriverState → DriverEntry → DriverState
@@ -23,3 +25,8 @@ pub record IsLegalEntry (d : DriverState) (e : DriverEntry) : Type 0 where
 abbrev pub IsLegal : DriverState → List DriverEntry → Type 0
 IsLegal d [] = Unit {0}
 IsLegal d (e ∷ es) = IsLegalEntry d e × IsLegal (entry_after d e) es
+
+-- what the calls of a journal draw, clear, copy, reduce or read, in order
+abbrev pub records_in : DriverState → List DriverEntry → List Record
+records_in d [] = []
+records_in d (e ∷ es) = call_records d e.call e.answer ++ records_in (entry_after d e) es

@@ -1,13 +1,13 @@
 -- What a command means.
-use Rattle.std.specs.Prelude.{Bool, List}
+use Rattle.std.specs.Prelude.{ℕ, Bool, true, false, List, [], Option, None, Some}
 use Rattle.gl_plain.specs.declared.driver_calls.DriverCall.{DriverCall}
-use Rattle.gl_plain.specs.Tables.{EsState, WireState}
+use Rattle.gl_plain.specs.declared.commands.Command.{Command}
+use Rattle.gl_plain.specs.declared.commands.Fetched.{Fetched}
 use Rattle.gl_plain.specs.Oracle.{Oracle}
-use Rattle.gl_plain.specs.Step.{Outcome}
-use Rattle.gl_plain.specs.Command.{Command, ObjectCommand}
-use Rattle.gl_plain.specs.Malformed.{has_bad_object_arguments, has_bad_arguments}
-use Rattle.gl_plain.specs.Wire.{object_step, wire_step}
-use Rattle.gl_plain.specs.Part.{object_calls, command_calls}
+use Rattle.gl_plain.specs.State.{WireState}
+use Rattle.gl_plain.specs.Outcome.{Outcome, leaves}
+use Rattle.gl_plain.specs.Commands.{command_of}
+use Rattle.gl_plain.specs.Wire.{is_bad, own_step, wire_step, own_calls, command_calls}
 
 -- whether a command's arguments are malformed, and, by the answers that it is given, what it leaves and which driver calls it makes
 pub record Meaning (S : Type 0) : Type 0 where
@@ -15,10 +15,23 @@ pub record Meaning (S : Type 0) : Type 0 where
   pub step : Oracle → Outcome S
   pub calls : Oracle → List DriverCall
 
--- a command on objects, in a state
-abbrev pub object_meaning : EsState → ObjectCommand → Meaning EsState
-object_meaning s c = record { bad = has_bad_object_arguments s c; step = object_step s c; calls = object_calls s c }
+-- a command, in a state of the service, with the bytes that come beside it
+abbrev pub command_meaning : WireState → Command → List ℕ → Meaning WireState
+command_meaning w c payload = record { bad = is_bad w c; step = wire_step w c payload; calls = command_calls w c payload }
 
--- a command, in a state of the service
-abbrev pub command_meaning : WireState → Command → Meaning WireState
-command_meaning w c = record { bad = has_bad_arguments w c; step = wire_step w c; calls = command_calls w c }
+-- what is left of a command behind its zeroings, where it is neither malformed nor refused
+abbrev pub own_meaning : WireState → Command → List ℕ → Meaning WireState
+own_meaning w c payload = record { bad = false; step = own_step w c payload; calls = own_calls w c payload }
+
+-- no command is malformed
+abbrev pub no_meaning : WireState → Meaning WireState
+no_meaning w = record { bad = true; step = leaves w; calls = λ o. [] }
+
+-- the command that is spelled, if one is
+abbrev pub meaning_by : WireState → Option Command → List ℕ → Meaning WireState
+meaning_by w None payload = no_meaning w
+meaning_by w (Some c) payload = command_meaning w c payload
+
+-- a fetched command
+abbrev pub meaning_of : WireState → Fetched → Meaning WireState
+meaning_of w f = meaning_by w (command_of f) f.payload

@@ -2,16 +2,9 @@
 use Rattle.std.specs.Prelude.{ℕ, ◌+◌, ◌==◌, if◌then◌else◌, List, [], ◌∷◌, None}
 use Rattle.std.specs.List.{list_any}
 use Prim.Native.Nat.{zero, suc}
-use Rattle.gl_plain.specs.declared.driver_calls.Answer.{Answer}
 use Rattle.gl_plain.specs.declared.driver_calls.Answers.{Answers}
-use Rattle.gl_plain.specs.declared.driver_calls.Answer.TheVariants.{Done, Name, Oom}
 use Rattle.gl_plain.specs.declared.driver_calls.Stored.{Stored}
 use Rattle.gl_plain.specs.declared.driver_calls.Stored.TheVariants as room
-use Rattle.gl_plain.specs.declared.driver_calls.ObjectDriver.{ObjectDriver}
-use Rattle.gl_plain.specs.declared.driver_calls.ObjectDriver.TheVariants.{GenBuffer, BufferData}
-use Rattle.gl_plain.specs.declared.driver_calls.DriverCall.{DriverCall}
-use Rattle.gl_plain.specs.declared.driver_calls.DriverCall.TheVariants.{Object}
-use Rattle.gl_plain.specs.declared.driver_calls.DriverEntry.{DriverEntry}
 
 -- the first answer of a list
 abbrev pub first : {X : Type 0} → (ℕ → X) → X
@@ -25,6 +18,11 @@ behind answers k = answers (suc k)
 abbrev pub led_by : {X : Type 0} → X → (ℕ → X) → ℕ → X
 led_by x answers zero = x
 led_by x answers (suc k) = answers k
+
+-- the answers behind as many as there are names
+abbrev pub behind_all : {X : Type 0} → List ℕ → (ℕ → X) → ℕ → X
+behind_all [] answers = answers
+behind_all (id ∷ ids) answers = behind_all ids (behind answers)
 
 -- n, n + 1, n + 2 and so on
 abbrev pub counted_from : ℕ → ℕ → ℕ
@@ -52,30 +50,3 @@ stored_at oom question = if list_any (λ n. n == question) oom then room.Oom els
 -- the answers that an input gives
 abbrev pub answers_of : Answers → Oracle
 answers_of given = record { buffers = counted_from 1; stored = stored_at given.oom }
-
--- a new name is the next number
-abbrev pub told_number : Answer → Oracle → Oracle
-told_number (Name n) o = record o { buffers = led_by n o.buffers }
-told_number Done o = o
-told_number Oom o = o
-
--- whether there was room is the next answer of that kind
-abbrev pub told_stored : Answer → Oracle → Oracle
-told_stored Done o = record o { stored = led_by room.Done o.stored }
-told_stored Oom o = record o { stored = led_by room.Oom o.stored }
-told_stored (Name n) o = o
-
--- what a call on objects asked
-abbrev pub told_object : ObjectDriver → Answer → Oracle → Oracle
-told_object GenBuffer answer o = told_number answer o
-told_object (BufferData target bytes usage) answer o = told_stored answer o
-told_object call answer o = o
-
--- what a call asked, before the other answers
-abbrev pub told_call : DriverCall → Answer → Oracle → Oracle
-told_call (Object call) answer o = told_object call answer o
-
--- what the entries of a journal answered, and then the answers of o
-abbrev pub told : List DriverEntry → Oracle → Oracle
-told [] o = o
-told (e ∷ es) o = told_call e.call e.answer (told es o)

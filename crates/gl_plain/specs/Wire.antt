@@ -1,75 +1,84 @@
--- Commands on the wire: one command, and a run of many.
-use Rattle.std.specs.Prelude.{ℕ, if◌then◌else◌, List, [], ◌∷◌, ◌++◌, Option, None, Some}
-use Rattle.gl_base.specs.Names.{is_reserved}
+-- One command on the wire: when it is malformed or refused, and what it leaves.
+use Rattle.std.specs.Prelude.{ℕ, ◌^◌, nat_le, Bool, false, List, [], ◌++◌, Option, None, Some}
 use Rattle.gl_plain.specs.declared.errors.GlError.{GlError}
-use Rattle.gl_plain.specs.declared.calls.Call.TheVariants as call
-use Rattle.gl_plain.specs.declared.calls.Reply.{Reply}
-use Rattle.gl_plain.specs.declared.calls.Reply.TheVariants as reply
-use Rattle.gl_plain.specs.declared.commands.Fetched.{Fetched}
-use Rattle.gl_plain.specs.declared.commands.Malformed.TheVariants.{InvalidArguments}
-use Rattle.gl_plain.specs.declared.commands.Stop.{Stop}
-use Rattle.gl_plain.specs.Tables.{EsState, WireState}
-use Rattle.gl_plain.specs.Refusal.{object_refusal}
+use Rattle.gl_plain.specs.declared.commands.Command.{Command}
+use Rattle.gl_plain.specs.declared.commands.Command.TheVariants.{Noop, SetToken, Object, Query}
+use Rattle.gl_plain.specs.declared.driver_calls.DriverCall.{DriverCall}
+use Rattle.gl_plain.specs.subjects.Images.{ImagePlace}
 use Rattle.gl_plain.specs.Oracle.{Oracle}
-use Rattle.gl_plain.specs.Errors.{least}
-use Rattle.gl_plain.specs.Step.{Outcome, Choice, choosing, outcome_by, es_step}
-use Rattle.gl_plain.specs.Command.{Command, Noop, SetToken, Object, Query, ObjectCommand, GenBuffer, QueryCommand, GetError, command_of, spelled, query_spelled, names_given}
-use Rattle.gl_plain.specs.Malformed.{has_bad_arguments}
+use Rattle.gl_plain.specs.State.{EsState, WireState}
+use Rattle.gl_plain.specs.Outcome.{Outcome, leaves, with_error}
+use Rattle.gl_plain.specs.Covers.{all_filled, zeroings}
+use Rattle.gl_plain.specs.object.Arguments.{object_is_bad, IsObjectData}
+use Rattle.gl_plain.specs.object.Refusal.{object_command_refusal}
+use Rattle.gl_plain.specs.object.Step.{object_step}
+use Rattle.gl_plain.specs.object.Calls.{own_object_calls}
+use Rattle.gl_plain.specs.query.Step.{query_step}
 
--- the code that a command is refused with: that of its call, but a reserved name is not counted, so the Gen of one never is refused
-abbrev pub command_refusal : EsState → ObjectCommand → Option GlError
-command_refusal s (GenBuffer id) = if is_reserved id then None else object_refusal s (spelled (GenBuffer id))
-command_refusal s c = object_refusal s (spelled c)
+-- an argument rule of the command is broken; a token has 31 bits
+abbrev pub is_bad : WireState → Command → Bool
+is_bad w Noop = false
+is_bad w (SetToken token) = nat_le (2 ^ 31) token
+is_bad w (Object c) = object_is_bad w.es c
+is_bad w (Query c) = false
 
--- a Gen gives the name that its command brought, and says no more
-abbrev pub command_reply : ObjectCommand → Reply → Reply
-command_reply (GenBuffer id) r = reply.None
-command_reply c r = r
+-- the bytes that come beside a command are those that its words name
+abbrev pub IsCommandData : Command → List ℕ → Type 0
+IsCommandData Noop payload = Unit {0}
+IsCommandData (SetToken token) payload = Unit {0}
+IsCommandData (Object c) payload = IsObjectData c payload
+IsCommandData (Query c) payload = Unit {0}
 
--- what a call leaves, with its command's reply
-abbrev pub with_command_reply : ObjectCommand → Outcome EsState → Outcome EsState
-with_command_reply c out = record { state = out.state; oracle = out.oracle; reply = command_reply c out.reply }
+-- the code that a command is refused with, if any
+abbrev pub command_refusal : EsState → Command → Option GlError
+command_refusal s Noop = None
+command_refusal s (SetToken token) = None
+command_refusal s (Object c) = object_command_refusal s c
+command_refusal s (Query c) = None
 
--- a command on objects does what its call does
-abbrev pub object_step : EsState → ObjectCommand → Oracle → Outcome EsState
-object_step s c o = with_command_reply c (outcome_by (command_refusal s c) s (choosing (names_given c)) (call.Object (spelled c)) o)
+-- the images that a command needs written whole before its own driver call, in order; no command on objects needs one, and no query
+abbrev pub whole_first : WireState → Command → List ImagePlace
+whole_first w Noop = []
+whole_first w (SetToken token) = []
+whole_first w (Object c) = []
+whole_first w (Query c) = []
 
--- what a query may choose: GetError gives the recorded code with the least number
-abbrev pub query_choice : EsState → QueryCommand → Choice
-query_choice s GetError = record { names = []; code = least s.errors }
-
--- a query does what its call does
-abbrev pub query_step : EsState → QueryCommand → Oracle → Outcome EsState
-query_step s c o = es_step s (query_choice s c) (call.Query (query_spelled c)) o
+-- the state behind the zeroings of a command
+abbrev pub zeroed : WireState → Command → WireState
+zeroed w c = record w { covers = all_filled w.es w.covers (whole_first w c) }
 
 -- what a step of OpenGL ES leaves of the state of the service
 abbrev pub on_wire : WireState → Outcome EsState → Outcome WireState
 on_wire w out = record { state = record w { es = out.state }; oracle = out.oracle; reply = out.reply }
 
--- one command
-abbrev pub wire_step : WireState → Command → Oracle → Outcome WireState
-wire_step w Noop o = record { state = w; oracle = o; reply = reply.None }
-wire_step w (SetToken token) o = record { state = record w { token = token }; oracle = o; reply = reply.None }
-wire_step w (Object c) o = on_wire w (object_step w.es c o)
-wire_step w (Query c) o = on_wire w (query_step w.es c o)
+-- a command that is not refused, behind its zeroings
+abbrev pub own_step : WireState → Command → List ℕ → Oracle → Outcome WireState
+own_step w Noop payload o = leaves w o
+own_step w (SetToken token) payload o = leaves (record w { token = token }) o
+own_step w (Object c) payload o = on_wire w (object_step w.es c payload o)
+own_step w (Query c) payload o = on_wire w (query_step w.es c o)
 
--- what a run of commands gives: a reply for each, the malformed command that stopped it, if any, and the state
-pub record Run : Type 0 where
-  pub replies : List Reply
-  pub stop : Option Stop
-  pub state : WireState
+-- a refused command records its code, and does nothing else (section 2.5)
+abbrev pub step_by : Option GlError → WireState → Command → List ℕ → Oracle → Outcome WireState
+step_by (Some e) w c payload o = leaves (record w { es = with_error w.es e }) o
+step_by None w c payload o = own_step (zeroed w c) c payload o
 
--- these replies come before those of a run
-abbrev pub after_replies : List Reply → Run → Run
-after_replies replies run = record { replies = replies ++ run.replies; stop = run.stop; state = run.state }
+-- one command, with the bytes that come beside it
+abbrev pub wire_step : WireState → Command → List ℕ → Oracle → Outcome WireState
+wire_step w c payload o = step_by (command_refusal w.es c) w c payload o
 
--- a run that stops at once, at a command whose arguments are malformed
-abbrev pub stopped_at : WireState → ℕ → Run
-stopped_at w place = record { replies = []; stop = Some (record { kind = InvalidArguments; place = place }); state = w }
+-- the driver calls of a command's name, with driver names
+abbrev pub own_calls : WireState → Command → List ℕ → Oracle → List DriverCall
+own_calls w Noop payload o = []
+own_calls w (SetToken token) payload o = []
+own_calls w (Object c) payload o = own_object_calls w.es c payload o
+own_calls w (Query c) payload o = []
 
--- the commands in order, up to the first whose arguments are malformed, or to the stop behind the last of them
-abbrev pub wire_run : WireState → List Fetched → Option Stop → Oracle → Run
-wire_run w [] stop o = record { replies = []; stop = stop; state = w }
-wire_run w (f ∷ fs) stop o =
-    if has_bad_arguments w (command_of f) then stopped_at w f.place
-    else after_replies ((wire_step w (command_of f) o).reply ∷ []) (wire_run (wire_step w (command_of f) o).state fs stop (wire_step w (command_of f) o).oracle)
+-- a refused command makes no driver call; any other makes its zeroings, and then its own
+abbrev pub calls_by : Option GlError → WireState → Command → List ℕ → Oracle → List DriverCall
+calls_by (Some e) w c payload o = []
+calls_by None w c payload o = zeroings w.es w.covers (whole_first w c) ++ own_calls w c payload o
+
+-- all driver calls of a command
+abbrev pub command_calls : WireState → Command → List ℕ → Oracle → List DriverCall
+command_calls w c payload o = calls_by (command_refusal w.es c) w c payload o

@@ -1,11 +1,10 @@
 //! The vertex attributes (OpenGL ES 2.0.25, sections 2.7 and 2.8).
 ghost use Rattle.std.specs.Prelude.{◌≡◌, ◌≤◌};
-ghost use Rattle.gl_plain.specs.Tables.{no_arrays};
-ghost use Rattle.gl_plain.specs.AttribEffect.{attribute, unread, with_array, with_constant, with_enabled, without_object};
+ghost use Rattle.gl_base.specs.declared.limits.TheConstants.{LAST_ATTRIBUTE};
+ghost use Rattle.gl_plain.specs.subjects.Attributes.{all_outside, attribute, no_arrays, outside, set_array_effect, vertex_attrib_4f_effect, vertex_attrib_pointer_effect};
 
 use gl_base::GlEnum;
-
-const FLOAT: GlEnum = GlEnum(0x1406);
+use gl_base::enums::{FLOAT, ONE};
 
 /// How the array of a vertex attribute is read (OpenGL ES 2.0.25, section 2.8).
 #[derive(Clone, Copy, Debug, PartialEq, Eq)]
@@ -37,7 +36,7 @@ pub struct VertexAttribute {
 impl VertexAttribute {
     /// The attribute with its array in no buffer, where it lay in the one of this number.
     fn outside(self, object: u64) -> VertexAttribute
-        ensures { result ≡ unread object self }
+        ensures { result ≡ outside object self }
     {
         if self.array.object != Some(object) {
             return self;
@@ -63,7 +62,7 @@ const OPENING: VertexAttribute = VertexAttribute {
         stride: 0,
         offset: 0,
     },
-    constant: [0, 0, 0, 0x3F80_0000],
+    constant: [0, 0, 0, ONE],
 };
 
 /// The sixteen vertex attributes, by their index.
@@ -84,7 +83,7 @@ impl VertexAttributes {
 
     /// The attribute of an index.
     pub fn get(&self, index: u32) -> VertexAttribute
-        requires { index ≤ 15 }
+        requires { index ≤ LAST_ATTRIBUTE }
         ensures { result ≡ attribute self.now index }
     {
         self.attributes[index as usize]
@@ -92,24 +91,24 @@ impl VertexAttributes {
 
     /// Enables the array of an index, or disables it.
     pub fn set_enabled(&mut self, index: u32, on: bool)
-        requires { index ≤ 15 }
-        ensures { self.new ≡ with_enabled self.old index on }
+        requires { index ≤ LAST_ATTRIBUTE }
+        ensures { self.new ≡ set_array_effect self.old index on }
     {
         self.attributes[index as usize].enabled = on;
     }
 
     /// Sets the constant value of an index, as four float patterns.
     pub fn set_constant(&mut self, index: u32, values: [u32; 4])
-        requires { index ≤ 15 }
-        ensures { self.new ≡ with_constant self.old index values }
+        requires { index ≤ LAST_ATTRIBUTE }
+        ensures { self.new ≡ vertex_attrib_4f_effect self.old index values }
     {
         self.attributes[index as usize].constant = values;
     }
 
     /// Sets the array of an index.
     pub fn set_array(&mut self, index: u32, array: ArraySpec)
-        requires { index ≤ 15 }
-        ensures { self.new ≡ with_array self.old index array }
+        requires { index ≤ LAST_ATTRIBUTE }
+        ensures { self.new ≡ vertex_attrib_pointer_effect self.old index array }
     {
         self.attributes[index as usize].array = array;
     }
@@ -117,7 +116,7 @@ impl VertexAttributes {
     /// Leaves no array in the buffer of this number.
     #[tactic(auto, using(std::proofs::lemmas::List::Edits::map_over_more))]
     pub fn unbind_buffer(&mut self, object: u64)
-        ensures { self.new ≡ without_object self.old object }
+        ensures { self.new ≡ all_outside self.old object }
     {
         for index in 0..self.attributes.len() {
             self.attributes[index] = self.attributes[index].outside(object);

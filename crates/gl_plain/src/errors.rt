@@ -2,6 +2,11 @@
 ghost use Rattle.std.specs.Prelude.{◌≡◌, Some};
 ghost use Rattle.gl_plain.specs.Errors.{cleared, code_given, code_of, least, noted, no_errors};
 
+use gl_base::enums::{
+    INVALID_ENUM, INVALID_FRAMEBUFFER_OPERATION, INVALID_OPERATION, INVALID_VALUE, NO_ERROR,
+    OUT_OF_MEMORY,
+};
+
 /// A code that a call is refused with.
 #[derive(Clone, Copy, Debug, PartialEq, Eq)]
 pub enum GlError {
@@ -18,11 +23,11 @@ impl GlError {
         ensures { result ≡ code_of self }
     {
         match self {
-            GlError::InvalidEnum => 0x0500,
-            GlError::InvalidValue => 0x0501,
-            GlError::InvalidOperation => 0x0502,
-            GlError::OutOfMemory => 0x0505,
-            GlError::InvalidFramebufferOperation => 0x0506,
+            GlError::InvalidEnum => INVALID_ENUM,
+            GlError::InvalidValue => INVALID_VALUE,
+            GlError::InvalidOperation => INVALID_OPERATION,
+            GlError::OutOfMemory => OUT_OF_MEMORY,
+            GlError::InvalidFramebufferOperation => INVALID_FRAMEBUFFER_OPERATION,
         }
     }
 }
@@ -108,7 +113,7 @@ impl Errors {
                 self.clear(error);
                 error.code()
             }
-            None => 0,
+            None => NO_ERROR,
         }
     }
 }

@@ -4,16 +4,23 @@
 mod attributes;
 mod calls;
 mod commands;
+mod common_lines;
+mod distinct;
 mod driver_calls;
 mod errors;
+pub mod fields;
 mod memory;
+pub mod numbers;
 mod objects;
 mod seq;
 mod stop;
 
 pub use attributes::{ArraySpec, VertexAttribute, VertexAttributes};
 pub use calls::{Call, Names, ObjectCall, Payload, Pointer, QueryCall, Reply, ReplyList};
-pub use commands::{DataWords, Fetched, Layout, Malformed, Plan, Stop};
+pub use commands::{
+    ArrayWords, Command, DataWords, Fetched, Malformed, ObjectCommand, QueryCommand, Stop,
+};
+pub use common_lines::{AnswersDraft, CommonLine, common_line};
 pub use driver_calls::{Answer, Answers, DriverCall, DriverEntry, EntryList, ObjectDriver, Stored};
 pub use errors::{Errors, GlError};
 pub use memory::{Patch, PatchList, Region, RegionList, Timed, TimedList};

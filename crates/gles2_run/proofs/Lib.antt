@@ -3,3 +3,5 @@ pub mod Lines
 pub mod Takings
 pub mod Runs
 pub mod Exact
+pub mod LinesSoFar
+pub mod BlocksWritten

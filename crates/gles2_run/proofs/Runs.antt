@@ -4,33 +4,42 @@ use Rattle.std.specs.Option.{unwrap_or}
 use Rattle.std.specs.Prelude.{IfSome}
 use Rattle.gl_plain.specs.declared.commands.Stop.{Stop}
 use Rattle.gl_plain.specs.declared.calls.Reply.{Reply}
+use Rattle.gl_plain.specs.declared.driver_calls.Answers.{Answers}
 use Rattle.gl_plain.specs.declared.driver_calls.DriverEntry.{DriverEntry}
-use Rattle.gl_plain.specs.Tables.{WireState, opening_wire, opening_driver}
+use Rattle.gl_plain.specs.subjects.Images.{read_contents}
+use Rattle.gl_plain.specs.State.{Surface, WireState, opening_wire, opening_driver}
 use Rattle.gl_plain.specs.Bytes.{part}
-use Rattle.gl_plain.specs.Oracle.{Oracle, told}
-use Rattle.gl_plain.specs.Wire.{Run, wire_run}
-use Rattle.gl_plain.specs.Part.{AreParts}
+use Rattle.gl_plain.specs.Oracle.{Oracle}
+use Rattle.gl_plain.specs.Oracle as oracle
+use Rattle.gl_plain.specs.driver.Answers.{told, AreAnsweredBy}
+use Rattle.gl_plain.specs.Run.{Run, wire_run}
+use Rattle.gl_plain.specs.Parts.{AreParts}
 use Rattle.gl_plain.specs.Agreement.{Agrees}
-use Rattle.gl_plain.proofs.Fronts.{no_front}
-use Rattle.gl_plain.specs.Journal.{state_after}
+use Rattle.gl_plain.specs.Journal.{IsLegal, state_after, records_in}
+use Rattle.gl_plain.specs.Records.{run_records}
+use Rattle.gl_plain.proofs.Opening.{opening_agrees}
+use Rattle.gl_laws.proofs.Runs.{records_of_run}
 use Rattle.gl_driver.specs.History.{Served}
 use Rattle.gl_driver.specs.declared.stop.DriverStop.TheVariants as driver
 use Rattle.strict_driver.specs.StrictView.{StrictView}
 use Rattle.strict_driver.specs.StrictHistory.{history_of, Continues, answers_left}
-use Rattle.gl_plain.specs.declared.driver_calls.Answers.{Answers}
-use Rattle.gles2_run.specs.Desks.{new_desk, loaded_driver}
+use Rattle.gles2_run.specs.declared.desk.Desk.{Desk}
 use Rattle.cb_shm.specs.declared.script.Script.{Script}
-use Rattle.cb_shm.specs.declared.entries.CopyEntry.{CopyEntry}
-use Rattle.cb_shm.specs.declared.hostile.HostileMemory.{HostileMemory}
-use Rattle.cb_shm.specs.Blocks.{sizes_of, part_of}
+use Rattle.cb_shm.specs.Memory.{CopyEntry}
+use Rattle.cb_shm.specs.Blocks.{part_of}
 use Rattle.cb_shm.specs.Hostile.{script_sizes, bytes_at}
-use Rattle.cb_shm.specs.HostileMemories.{IsMemoryOf, AreScripted, memory_of}
+use Rattle.cb_shm.specs.declared.hostile.HostileMemory.{HostileMemory}
+use Rattle.cb_shm.specs.HostileMemories.{AreScripted, IsMemoryOf, memory_of}
 use Rattle.cb_fetch.specs.Seen.{AreGiven, Seen, seen, seen_puts, none_seen, script_reads}
 use Rattle.decoder_core.specs.declared.outcome.ServiceStop.{ServiceStop}
 use Rattle.decoder_core.specs.declared.outcome.ServiceStop.TheVariants as stops
-use Rattle.decoder_core.specs.ServiceViews.{ServiceView, new_service}
-use Rattle.decoder_core.specs.Runs.{GoesOn, StopsWith, IsCutOff}
-use Rattle.gles2_run.specs.Ends.{answers_of, ring_run, HoldsRun, HoldsFront}
+use Rattle.decoder_core.specs.ServiceView.{wire_of}
+use Rattle.cb_fetch.specs.FetchViews.{FetchView}
+use Rattle.decoder_core.specs.ServiceView.{ServiceView, IsNewService}
+use Rattle.decoder_core.specs.Side.{Side, side}
+use Rattle.decoder_core.specs.RunsSoFar.{GoesOn, StopsWith, IsCutOff}
+use Rattle.gles2_run.specs.Desks.{loaded_driver}
+use Rattle.gles2_run.specs.Ends.{answers_of, ring_run, KeepsToScript, HoldsRun, HoldsFront}
 use Rattle.gles2_run.specs.Puts.{seen_by_puts, HasTaken, HasStopped, WasCutOff, TookPuts}
 
 pub one_word : {X : Type 0} (xs : List X) (x : X) → length xs ≡ 1 → x ≡ get_or xs 0 x → xs ≡ x ∷ []
@@ -48,141 +57,153 @@ part_read (Some region) offset bytes e = inside (nat_le (offset + length bytes) 
     inside false is = cc
 
 -- copies that gave what the script sets gave what is read of its memory
-are_given : (script : Script) (n : ℕ) (copies : List CopyEntry) → AreScripted script n copies → AreGiven (script_reads script) n copies
+pub are_given : (script : Script) (n : ℕ) (copies : List CopyEntry) → AreScripted script n copies → AreGiven (script_reads script) n copies
 are_given script n [] scripted = tt
 are_given script n (c ∷ cs) scripted = (part_read (bytes_at script n c.region) c.offset c.bytes scripted.0, are_given script (n + 1) cs scripted.1)
 
--- all commands of a script, where its memory is new
-seen_is : (script : Script) (memory : HostileMemory) (puts : List ℕ) → IsMemoryOf script memory → memory.copies ≡ [] → puts ≡ script.puts
-    → seen_by_puts (script_reads script) (memory_of memory) (new_service script.entries) puts ≡ seen script
-seen_is script memory puts described new puts_are =
-    let sizes : sizes_of memory.regions ≡ script_sizes script = λ i region. described.regions_are.sizes_are region i in
-    ap (λ (size : ℕ → Option ℕ). seen_puts (script_reads script) size script.entries (length memory.copies) 0 puts) sizes
-    ∙ ap (λ (copies : List CopyEntry). seen_puts (script_reads script) (script_sizes script) script.entries (length copies) 0 puts) new
-    ∙ ap (seen_puts (script_reads script) (script_sizes script) script.entries 0 0) puts_are
+-- the side at the opening of a script's run: nothing was done, and the driver will answer as the script says
+pub record IsStart (script : Script) (a : Side StrictView) (puts : List ℕ) : Type 0 where
+  pub entries : a.service.fetch.entries ≡ script.entries
+  pub get : a.service.fetch.get ≡ 0
+  pub wire : wire_of a.service ≡ opening_wire script.surface
+  pub sizes : a.memory.sizes ≡ script_sizes script
+  pub copies : a.memory.copies ≡ []
+  pub puts_are : puts ≡ script.puts
+  pub journal : a.driver.journal ≡ []
+  pub surface : a.driver.surface ≡ script.surface
+  pub gives : answers_left a.driver ≡ answers_of script
+  pub lost : a.driver.loaded.lost ≡ script.answers.lost
 
--- the run of a script that came to this driver
-record CameTo (script : Script) (given_answers : Answers) (now : StrictView) (replies : List Reply) (stop : Option Stop) : Type 0 where
-  pub entries : List DriverEntry
-  pub served : Served history_of Continues (loaded_driver given_answers) now entries
-  pub last : WireState
-  pub run : (rest : Oracle) → wire_run opening_wire (seen script).commands (seen script).stop (told entries rest) ≡ record { replies = replies; stop = stop; state = last }
-  pub parts : (rest : Oracle) → AreParts opening_wire opening_driver (seen script).commands (told entries rest) entries
-  pub agrees : Agrees last.es (state_after opening_driver now.journal)
+-- a new service, new memory and a driver that was just loaded are a start
+pub starts : (script : Script) (s : ServiceView) (m : HostileMemory) (d : StrictView) (puts : List ℕ) → IsNewService script.surface script.entries s → IsMemoryOf script m → (memory_of m).copies ≡ [] → puts ≡ script.puts
+    → d ≡ loaded_driver script.surface d.loaded → answers_left d ≡ answers_of script → d.loaded.lost ≡ script.answers.lost → IsStart script (side s (memory_of m) d) puts
+starts script s m d puts new described no_copies puts_are loaded gives lost = record {
+  entries = ap (λ (f : FetchView). f.entries) new.fetch;
+  get = ap (λ (f : FetchView). f.get) new.fetch;
+  wire = new.opening;
+  sizes = λ i region. described.regions_are.sizes_are region i;
+  copies = no_copies;
+  puts_are = puts_are;
+  journal = ap (λ (v : StrictView). v.journal) loaded;
+  surface = ap (λ (v : StrictView). v.surface) loaded;
+  gives = gives;
+  lost = lost;
+}
 
-module _ (script : Script) (given_answers : Answers) (gives : answers_left (loaded_driver given_answers) ≡ answers_of script) (now : StrictView) (answers : List Reply) (stop : Option Stop) (came : CameTo script given_answers now answers stop)
-    (few : IfSome script.answers.lost (λ n. length now.journal ≤ n)) where
-  -- the driver gave the answers of the script
-  told_is : told came.entries (answers_left now) ≡ answers_of script
-  told_is = ap (λ (j : List DriverEntry). told j (answers_left now)) (sym came.served.journal ∙ came.served.grows.journal) ∙ came.served.grows.answers ∙ gives
+-- tables that just opened agree with a driver that was just loaded
+pub agrees_at_start : (script : Script) (s : ServiceView) (d : StrictView) → IsNewService script.surface script.entries s → d ≡ loaded_driver script.surface d.loaded → Agrees (wire_of s) (history_of d).state
+agrees_at_start script s d new loaded =
+    let at_loaded : Agrees (wire_of s) (history_of (loaded_driver script.surface d.loaded)).state = subst (λ (w : WireState). Agrees w (opening_driver script.surface)) (sym new.opening) (opening_agrees script.surface) in
+    subst (λ (v : StrictView). Agrees (wire_of s) (history_of v).state) (sym loaded) at_loaded
 
-  run_is : ring_run script ≡ record { replies = answers; stop = stop; state = came.last }
-  run_is = ap (wire_run opening_wire (seen script).commands (seen script).stop) (sym told_is) ∙ came.run (answers_left now)
+-- the side at its end: each copy gave what the script sets, and the driver kept to its answers
+pub record IsEnd (script : Script) (b : Side StrictView) : Type 0 where
+  pub given : AreGiven (script_reads script) 0 b.memory.copies
+  pub legal : IsLegal (opening_driver b.driver.surface) b.driver.journal
+  pub answered : AreAnsweredBy (oracle.answers_of b.driver.loaded) b.driver.journal
+  pub pinned : told b.driver.journal (answers_left b.driver) ≡ oracle.answers_of b.driver.loaded
+  pub within : IfSome b.driver.loaded.lost (λ n. length b.driver.journal ≤ n)
 
-  holds : ((ring_run script).stop ≡ stop) × HoldsRun script (record { driver = now; answers = answers })
-  holds = (
-    ap (λ (r : Run). r.stop) run_is,
-    record {
-      replies = sym (ap (λ (r : Run). r.replies) run_is);
-      parts =
-          let by_default : AreParts opening_wire opening_driver (seen script).commands (answers_of script) came.entries =
-          subst (λ (o : Oracle). AreParts opening_wire opening_driver (seen script).commands o came.entries) told_is (came.parts (answers_left now)) in
-          subst (λ (j : List DriverEntry). AreParts opening_wire opening_driver (seen script).commands (answers_of script) j) (sym came.served.journal) by_default;
-      agrees = subst (λ (r : Run). Agrees r.state.es (state_after opening_driver now.journal)) (sym run_is) came.agrees;
-      within = few;
-    },
-  )
+module _ (script : Script) (a b : Side StrictView) (puts : List ℕ) (start : IsStart script a puts) (end : IsEnd script b) (answers : List Reply) where
+  -- all commands of the script
+  all_is : seen_by_puts (script_reads script) a.memory a.service puts ≡ seen script
+  all_is = rw (start.sizes, start.entries, start.copies, start.get, start.puts_are) refl
 
-module _ (script : Script) (given_answers : Answers) (gives : answers_left (loaded_driver given_answers) ≡ answers_of script) (before after : HostileMemory) (puts : List ℕ) (described : IsMemoryOf script before) (new : before.copies ≡ []) (puts_are : puts ≡ script.puts) (still : IsMemoryOf script after) (s2 : ServiceView) (now : StrictView) (answers : List Reply)
-    (same : given_answers.lost ≡ script.answers.lost) (within : IfSome now.loaded.lost (λ n. length now.journal ≤ n)) where
-  all_is : seen_by_puts (script_reads script) (memory_of before) (new_service script.entries) puts ≡ seen script
-  all_is = seen_is script before puts described new puts_are
+  module _ (entries : List DriverEntry) (served : Served history_of Continues a.driver b.driver entries) where
+    -- the driver entered these calls alone
+    entered : b.driver.journal ≡ entries
+    entered = served.journal ∙ ap (λ (j : List DriverEntry). j ++ entries) start.journal
 
-  given : AreGiven (script_reads script) 0 after.copies
-  given = are_given script 0 after.copies still.copies_are
+    same_surface : b.driver.surface ≡ script.surface
+    same_surface = served.grows.surface ∙ start.surface
 
-  -- the driver keeps to what it was loaded with
-  few : (entries : List DriverEntry) → Served history_of Continues (loaded_driver given_answers) now entries → IfSome script.answers.lost (λ n. length now.journal ≤ n)
-  few entries served = subst (λ (lost : Option ℕ). IfSome lost (λ n. length now.journal ≤ n)) (ap (λ (a : Answers). a.lost) served.grows.loaded ∙ same) within
+    -- and gave the answers of the script
+    told_is : told entries (answers_left b.driver) ≡ answers_of script
+    told_is =
+        ap (λ (j : List DriverEntry). told j (answers_left b.driver)) (sym entered ∙ served.grows.journal ∙ ap (λ (j : List DriverEntry). j ++ served.grows.more) start.journal)
+        ∙ served.grows.answers ∙ start.gives
+
+    given_is : oracle.answers_of b.driver.loaded ≡ answers_of script
+    given_is = sym end.pinned ∙ ap (λ (j : List DriverEntry). told j (answers_left b.driver)) entered ∙ told_is
+
+    keeps : KeepsToScript script (record { driver = b.driver; answers = answers })
+    keeps = record {
+      surface = same_surface;
+      answers = subst (λ (o : Oracle). AreAnsweredBy o b.driver.journal) given_is end.answered;
+      within = subst (λ (lost : Option ℕ). IfSome lost (λ n. length b.driver.journal ≤ n)) (ap (λ (given : Answers). given.lost) served.grows.loaded ∙ start.lost) end.within;
+    }
+
+    -- the whole run
+    holds : (stop : Option Stop) (last : WireState) → ((rest : Oracle) → wire_run (opening_wire script.surface) (seen script).commands (seen script).stop (told entries rest) ≡ record { replies = answers; stop = stop; state = last })
+        → ((rest : Oracle) → AreParts (opening_wire script.surface) (seen script).commands (told entries rest) entries) → Agrees last (history_of b.driver).state
+        → ((ring_run script).stop ≡ stop) × HoldsRun script (record { driver = b.driver; answers = answers })
+    holds stop last run parts agrees =
+        let run_is : ring_run script ≡ record { replies = answers; stop = stop; state = last } =
+        ap (wire_run (opening_wire script.surface) (seen script).commands (seen script).stop) (sym told_is) ∙ run (answers_left b.driver) in
+        let legal : IsLegal (opening_driver script.surface) entries = rw (← entered, ← same_surface) end.legal in
+        let records : records_in (opening_driver script.surface) entries ≡ run_records (opening_wire script.surface) (read_contents (opening_driver script.surface).contents) (seen script).commands (told entries (answers_left b.driver)) =
+        records_of_run (seen script).commands (opening_wire script.surface) (opening_driver script.surface) (answers_left b.driver) entries (opening_agrees script.surface) legal (parts (answers_left b.driver)) in
+        (
+          ap (λ (r : Run). r.stop) run_is,
+          record {
+            replies = sym (ap (λ (r : Run). r.replies) run_is);
+            parts =
+                let by_answers : AreParts (opening_wire script.surface) (seen script).commands (answers_of script) entries =
+                subst (λ (o : Oracle). AreParts (opening_wire script.surface) (seen script).commands o entries) told_is (parts (answers_left b.driver)) in
+                subst (λ (j : List DriverEntry). AreParts (opening_wire script.surface) (seen script).commands (answers_of script) j) (sym entered) by_answers;
+            records =
+                ap (records_in (opening_driver script.surface)) entered ∙ records
+                ∙ ap (run_records (opening_wire script.surface) (read_contents (opening_driver script.surface).contents) (seen script).commands) told_is;
+            agrees = subst (λ (r : Run). Agrees r.state (state_after (opening_driver script.surface) b.driver.journal)) (sym run_is) (subst (λ (surface : Surface). Agrees last (state_after (opening_driver surface) b.driver.journal)) same_surface agrees);
+            keeps = keeps;
+          },
+        )
 
   -- all puts were taken
-  holds_all : HasTaken (new_service script.entries) (memory_of before) (loaded_driver given_answers) [] puts s2 (memory_of after) now answers [] → ((ring_run script).stop ≡ None) × HoldsRun script (record { driver = now; answers = answers })
+  holds_all : HasTaken a [] puts b answers [] → ((ring_run script).stop ≡ None) × HoldsRun script (record { driver = b.driver; answers = answers })
   holds_all taken =
-      let go : GoesOn opening_wire opening_driver (seen script) s2.wire (history_of now).state none_seen taken.replies taken.entries =
-      subst (λ (all : Seen). GoesOn opening_wire opening_driver all s2.wire (history_of now).state none_seen taken.replies taken.entries) all_is (taken.run (script_reads script) given) in
-      holds script given_answers gives now answers None
-      (record {
-        entries = taken.entries;
-        served = taken.served;
-        last = s2.wire;
-        run = λ rest. go.run rest ∙ ap (λ (r : List Reply). record { replies = r; stop = None; state = s2.wire }) (append-nil taken.replies ∙ sym taken.answered);
-        parts = λ rest. rw append-nil at (go.parts [] rest refl);
-        agrees = taken.agrees;
-      })
-      (few taken.entries taken.served)
+      let go : GoesOn (opening_wire script.surface) (seen script) (wire_of b.service) none_seen taken.replies taken.entries = rw (← start.wire, ← all_is) (taken.run (script_reads script) end.given) in
+      holds taken.entries taken.served None (wire_of b.service)
+      (λ rest. go.run rest ∙ ap (λ (r : List Reply). record { replies = r; stop = None; state = wire_of b.service }) (append-nil taken.replies ∙ sym taken.answered))
+      (λ rest. rw append-nil at (go.parts [] rest refl)) taken.agrees
 
   -- a command was malformed
-  holds_to : (stop : Stop) → HasStopped (new_service script.entries) (memory_of before) (loaded_driver given_answers) [] puts s2 (memory_of after) now answers stop
-      → ((ring_run script).stop ≡ Some stop) × HoldsRun script (record { driver = now; answers = answers })
+  holds_to : (stop : Stop) → HasStopped a [] puts b answers stop → ((ring_run script).stop ≡ Some stop) × HoldsRun script (record { driver = b.driver; answers = answers })
   holds_to stop stopped =
-      let ends : StopsWith opening_wire opening_driver (seen script) s2.wire stop stopped.replies stopped.entries =
-      subst (λ (all : Seen). StopsWith opening_wire opening_driver all s2.wire stop stopped.replies stopped.entries) all_is (stopped.run (script_reads script) given) in
-      holds script given_answers gives now answers (Some stop)
-      (record {
-        entries = stopped.entries;
-        served = stopped.served;
-        last = s2.wire;
-        run = λ rest. ends.run rest ∙ ap (λ (r : List Reply). record { replies = r; stop = Some stop; state = s2.wire }) (sym stopped.answered);
-        parts = ends.parts;
-        agrees = stopped.agrees;
-      })
-      (few stopped.entries stopped.served)
+      let ends : StopsWith (opening_wire script.surface) (seen script) (wire_of b.service) stop stopped.replies stopped.entries = rw (← start.wire, ← all_is) (stopped.run (script_reads script) end.given) in
+      holds stopped.entries stopped.served (Some stop) (wire_of b.service)
+      (λ rest. ends.run rest ∙ ap (λ (r : List Reply). record { replies = r; stop = Some stop; state = wire_of b.service }) (sym stopped.answered)) ends.parts stopped.agrees
 
   -- the run was cut off
-  holds_cut : (lost : Bool) → WasCutOff lost (new_service script.entries) (memory_of before) (loaded_driver given_answers) [] puts (memory_of after) now answers → HoldsFront lost script (record { driver = now; answers = answers })
+  holds_cut : (lost : Bool) → WasCutOff lost a [] puts b answers → HoldsFront lost script (record { driver = b.driver; answers = answers })
   holds_cut lost cut =
-      let off : IsCutOff lost opening_wire opening_driver (seen script) cut.replies cut.entries =
-      subst (λ (all : Seen). IsCutOff lost opening_wire opening_driver all cut.replies cut.entries) all_is (cut.run (script_reads script) given) in
-      let told_is : told cut.entries (answers_left now) ≡ answers_of script =
-      ap (λ (j : List DriverEntry). told j (answers_left now)) (sym cut.served.journal ∙ cut.served.grows.journal) ∙ cut.served.grows.answers ∙ gives in
-      let run = off.run (answers_left now) in
+      let off : IsCutOff lost (opening_wire script.surface) (seen script) cut.replies cut.entries = rw (← start.wire, ← all_is) (cut.run (script_reads script) end.given) in
+      let told : told cut.entries (answers_left b.driver) ≡ answers_of script = told_is cut.entries cut.served in
+      let run = off.run (answers_left b.driver) in
       record {
-        replies = (run.0, ap (λ (o : Oracle). (wire_run opening_wire (seen script).commands (seen script).stop o).replies) (sym told_is) ∙ run.1 ∙ ap (λ (r : List Reply). r ++ run.0) (sym cut.answered));
-        parts = rw (cut.answered, cut.served.journal, ← told_is) (off.parts (answers_left now));
-        within = few cut.entries cut.served;
+        replies = (run.0, ap (λ (o : Oracle). (wire_run (opening_wire script.surface) (seen script).commands (seen script).stop o).replies) (sym told) ∙ run.1 ∙ ap (λ (r : List Reply). r ++ run.0) (sym cut.answered));
+        parts = rw (cut.answered, entered cut.entries cut.served, ← told) (off.parts (answers_left b.driver));
+        keeps = keeps cut.entries cut.served;
       }
 
-  abbrev pub Took : StrictView → Result (Unit {0}) ServiceStop → Type 0
-  Took start r = TookPuts (new_service script.entries) (memory_of before) start [] puts s2 (memory_of after) now answers r
-
-  module _ (start : StrictView) (loaded : start ≡ loaded_driver given_answers) (r : Result (Unit {0}) ServiceStop) (took : Took start r) where
-    from_loaded : Took (loaded_driver given_answers) r
-    from_loaded = subst (λ (d : StrictView). Took d r) loaded took
-
-    pub done_holds : OnOk r (((ring_run script).stop ≡ None) × HoldsRun script (record { driver = now; answers = answers }))
-    done_holds = by_result r from_loaded
+  module _ (r : Result (Unit {0}) ServiceStop) (took : TookPuts a [] puts b answers r) where
+    pub done_holds : OnOk r (((ring_run script).stop ≡ None) × HoldsRun script (record { driver = b.driver; answers = answers }))
+    done_holds = by_result r took
       where
-        by_result : (r : Result (Unit {0}) ServiceStop) → Took (loaded_driver given_answers) r → OnOk r (((ring_run script).stop ≡ None) × HoldsRun script (record { driver = now; answers = answers }))
+        by_result : (r : Result (Unit {0}) ServiceStop) → TookPuts a [] puts b answers r → OnOk r (((ring_run script).stop ≡ None) × HoldsRun script (record { driver = b.driver; answers = answers }))
         by_result (Ok u) taken = holds_all taken
         by_result (Err e) taken = tt
 
-    pub bad_holds : (stop : Stop) → IsErrOf r (stops.Bad stop) → ((ring_run script).stop ≡ Some stop) × HoldsRun script (record { driver = now; answers = answers })
-    bad_holds stop is = holds_to stop (subst (Took (loaded_driver given_answers)) is from_loaded)
+    pub bad_holds : (stop : Stop) → IsErrOf r (stops.Bad stop) → ((ring_run script).stop ≡ Some stop) × HoldsRun script (record { driver = b.driver; answers = answers })
+    bad_holds stop is = holds_to stop (subst (TookPuts a [] puts b answers) is took)
 
     -- the driver was lost where the script says
-    pub lost_holds : (now.stop ≡ Some driver.Lost → now.loaded.lost ≡ Some (length now.journal)) → IsErrOf r stops.Lost
-        → HoldsFront true script (record { driver = now; answers = answers }) × (script.answers.lost ≡ Some (length now.journal)) × (now.stop ≡ Some driver.Lost)
+    pub lost_holds : (b.driver.stop ≡ Some driver.Lost → b.driver.loaded.lost ≡ Some (length b.driver.journal)) → IsErrOf r stops.Lost
+        → HoldsFront true script (record { driver = b.driver; answers = answers }) × (script.answers.lost ≡ Some (length b.driver.journal)) × (b.driver.stop ≡ Some driver.Lost)
     lost_holds counted is =
-        let lost = subst (Took (loaded_driver given_answers)) is from_loaded in
-        (holds_cut true lost.0, sym same ∙ ap (λ (a : Answers). a.lost) (sym lost.0.served.grows.loaded) ∙ counted lost.1, lost.1)
+        let lost = subst (TookPuts a [] puts b answers) is took in
+        (holds_cut true lost.0, sym start.lost ∙ ap (λ (given : Answers). given.lost) (sym lost.0.served.grows.loaded) ∙ counted lost.1, lost.1)
 
-    pub short_holds : IsErrOf r stops.NoMemory → HoldsFront false script (record { driver = now; answers = answers })
-    short_holds is = holds_cut false (subst (Took (loaded_driver given_answers)) is from_loaded)
+    pub short_holds : IsErrOf r stops.NoMemory → HoldsFront false script (record { driver = b.driver; answers = answers })
+    short_holds is = holds_cut false (subst (TookPuts a [] puts b answers) is took)
 
-none_few : (lost : Option ℕ) → IfSome lost (λ n. 0 ≤ n)
-none_few None = tt
-none_few (Some n) = omega arith
-
--- nothing was done
-pub nothing_held : (script : Script) → HoldsFront false script new_desk
-nothing_held script = record { replies = ((ring_run script).replies, refl); parts = no_front opening_wire (seen script).commands; within = none_few script.answers.lost }

@@ -1,6 +1,7 @@
 -- What a run leaves.
 use Rattle.std.specs.Prelude.{[]}
 use Rattle.gl_plain.specs.declared.driver_calls.Answers.{Answers}
+use Rattle.gl_plain.specs.State.{Surface}
 use Rattle.strict_driver.specs.StrictView.{StrictView}
 use Rattle.strict_driver.specs.StrictHistory.{new_driver}
 use Rattle.gles2_run.specs.declared.desk.Desk.{Desk}
@@ -9,6 +10,6 @@ use Rattle.gles2_run.specs.declared.desk.Desk.{Desk}
 abbrev pub new_desk : Desk
 new_desk = record { driver = new_driver; answers = [] }
 
--- a driver that was given no call, with these answers
-abbrev pub loaded_driver : Answers → StrictView
-loaded_driver given = record new_driver { loaded = given }
+-- a driver that was given no call, with this surface and these answers
+abbrev pub loaded_driver : Surface → Answers → StrictView
+loaded_driver surface given = record new_driver { surface = surface; loaded = given }

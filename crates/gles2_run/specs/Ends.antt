@@ -6,22 +6,27 @@ use Rattle.io_edge.specs.Pieces.{ConsumesFront, AppendsFront}
 use Rattle.gl_plain.specs.declared.calls.Reply.{Reply}
 use Rattle.gl_plain.specs.declared.commands.Stop.{Stop}
 use Rattle.cb_shm.specs.declared.script.Script.{Script}
-use Rattle.gl_plain.specs.Tables.{opening_wire, opening_driver}
+use Rattle.gl_plain.specs.subjects.Images.{read_contents}
+use Rattle.gl_plain.specs.State.{opening_wire, opening_driver}
 use Rattle.gl_plain.specs.Oracle.{Oracle}
 use Rattle.gl_plain.specs.Oracle as given
+use Rattle.gl_plain.specs.driver.Answers.{AreAnsweredBy}
 use Rattle.cb_fetch.specs.Seen.{seen}
-use Rattle.gl_plain.specs.Wire.{Run, wire_run}
-use Rattle.gl_plain.specs.Part.{AreParts, AreCutParts}
-use Rattle.gl_plain.specs.Journal.{state_after}
+use Rattle.gl_plain.specs.Run.{Run, wire_run}
+use Rattle.gl_plain.specs.Parts.{AreParts, AreCutParts}
+use Rattle.gl_plain.specs.Journal.{state_after, records_in}
+use Rattle.gl_plain.specs.Records.{run_records}
 use Rattle.gl_plain.specs.Agreement.{Agrees}
 use Rattle.gl_driver.specs.declared.stop.DriverStop.TheVariants as driver
 use Rattle.ring_script.specs.Script.{script_in}
 use Rattle.report_text.specs.declared.end.End.{End}
 use Rattle.report_text.specs.declared.end.End.TheVariants.{Done, Usage, BadLine, ReadFault, Stopped, Lost, NoMemory, TooLong}
-use Rattle.report_text.specs.Ends.{status_of, end_text}
-use Rattle.report_text.specs.Report.{output_text}
+use Rattle.report_text.specs.declared.statuses.TheConstants.{WRITE_FAULT, NO_MEMORY}
+use Rattle.report_text.specs.Ends.{status_of}
+use Rattle.report_text.specs.Report.{output_text, work_text}
 use Rattle.gles2_run.specs.declared.desk.Desk.{Desk}
 use Rattle.gles2_run.specs.Desks.{new_desk}
+use Rattle.gles2_run.specs.Written.{AppendsFrontCut}
 
 -- the words of the command line are the one word `ring`
 abbrev pub IsRing : List (List ℕ) → Type 0
@@ -48,15 +53,23 @@ answers_of script = given.answers_of script.answers
 
 -- the run of a script's commands, as read, from the opening state
 abbrev pub ring_run : Script → Run
-ring_run script = wire_run opening_wire (seen script).commands (seen script).stop (answers_of script)
+ring_run script = wire_run (opening_wire script.surface) (seen script).commands (seen script).stop (answers_of script)
+
+-- What is so of the journal of a script's run, also of one that was cut off: the driver opened with the script's surface, it gave the
+-- answers of the script, in order, and there are no more calls than are answered before the driver is lost.
+pub record KeepsToScript (script : Script) (desk : Desk) : Type 0 where
+  pub surface : desk.driver.surface ≡ script.surface
+  pub answers : AreAnsweredBy (answers_of script) desk.driver.journal
+  pub within : IfSome script.answers.lost (λ n. length desk.driver.journal ≤ n)
 
 -- The desk holds the run of a script: the replies, one part of the journal for each command, and a driver whose tables are those that
--- the calls of OpenGL ES left. There are no more calls than are answered before the driver is lost.
+-- the calls of OpenGL ES left. What the driver calls drew, cleared, copied, reduced and read are the records of the run.
 pub record HoldsRun (script : Script) (desk : Desk) : Type 0 where
   pub replies : desk.answers ≡ (ring_run script).replies
-  pub parts : AreParts opening_wire opening_driver (seen script).commands (answers_of script) desk.driver.journal
-  pub agrees : Agrees (ring_run script).state.es (state_after opening_driver desk.driver.journal)
-  pub within : IfSome script.answers.lost (λ n. length desk.driver.journal ≤ n)
+  pub parts : AreParts (opening_wire script.surface) (seen script).commands (answers_of script) desk.driver.journal
+  pub records : records_in (opening_driver script.surface) desk.driver.journal ≡ run_records (opening_wire script.surface) (read_contents (opening_driver script.surface).contents) (seen script).commands (answers_of script)
+  pub agrees : Agrees (ring_run script).state (state_after (opening_driver script.surface) desk.driver.journal)
+  pub keeps : KeepsToScript script desk
 
 -- the input is a script, which was run to its end, or to the malformed command that the run stops at
 pub record HoldsRunOf (input : List ℕ) (stop : Option Stop) (desk : Desk) : Type 0 where
@@ -69,8 +82,8 @@ pub record HoldsRunOf (input : List ℕ) (stop : Option Stop) (desk : Desk) : Ty
 -- the driver calls one part for each command that was answered, in order, and a front of the part of the next one, if there is one.
 pub record HoldsFront (lost : Bool) (script : Script) (desk : Desk) : Type 0 where
   pub replies : (more : List Reply) × ((ring_run script).replies ≡ desk.answers ++ more)
-  pub parts : AreCutParts lost opening_wire opening_driver (seen script).commands (length desk.answers) (answers_of script) desk.driver.journal
-  pub within : IfSome script.answers.lost (λ n. length desk.driver.journal ≤ n)
+  pub parts : AreCutParts lost (opening_wire script.surface) (seen script).commands (length desk.answers) (answers_of script) desk.driver.journal
+  pub keeps : KeepsToScript script desk
 
 -- the input is a script, whose run was cut off for want of memory
 pub record HoldsFrontOf (input : List ℕ) (desk : Desk) : Type 0 where
@@ -133,13 +146,13 @@ Means (Stopped stop) words before now ended was is desk = IsRing words × RanTo 
 Means Lost words before now ended was is desk = IsRing words × RanLost before now ended desk
 Means NoMemory words before now ended was is desk = IsRing words × ((desk ≡ new_desk) ⊎ RanShort before now ended desk)
 
--- The status is the end's, and the sink gained its whole output; or a write failed, and it gained a front of it; or there was no
--- memory for the output, and it gained a front of the line that says so.
+-- The status is the end's, and the sink gained its whole output; or a write failed, and it gained a front of the output; or there was no
+-- memory for the output, and it gained a front of the output without its end, behind which a front of the line that says so may stand.
 abbrev pub Closes : End → Desk → ℕ → Option (List ℕ) → Option (List ℕ) → ℕ → ℕ → Type 0
 Closes end desk status before after was is =
     ((status ≡ status_of end) × Appends before after (output_text desk.answers desk.driver.journal end))
-    ⊎ ((status ≡ 5) × Rose was is × AppendsFront before after (output_text desk.answers desk.driver.journal end))
-    ⊎ ((status ≡ 7) × AppendsFront before after (end_text NoMemory))
+    ⊎ ((status ≡ WRITE_FAULT) × Rose was is × AppendsFront before after (output_text desk.answers desk.driver.journal end))
+    ⊎ ((status ≡ NO_MEMORY) × AppendsFrontCut before after (work_text desk.answers desk.driver.journal))
 
 -- the fact holds, unless a write failed or there was no memory
 abbrev pub UnlessCut : Type 0 → ℕ → Type 0

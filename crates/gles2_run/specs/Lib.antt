@@ -2,3 +2,5 @@
 pub mod Desks
 pub mod Ends
 pub mod Puts
+pub mod Written
+pub mod ClosingStops

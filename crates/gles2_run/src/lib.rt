@@ -3,13 +3,7 @@
 
 mod closing;
 mod desk;
-#[cfg(test)]
-mod object_tests;
 mod puts;
-#[cfg(test)]
-mod service_tests;
-#[cfg(test)]
-mod tests;
 mod top;
 mod working;
 

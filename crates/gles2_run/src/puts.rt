@@ -3,8 +3,9 @@ ghost use Rattle.std.specs.Prelude.{◌≡◌, ◌<◌};
 ghost use Rattle.gl_plain.specs.Agreement.{Agrees};
 ghost use Rattle.strict_driver.specs.StrictHistory.{history_of, Continues};
 ghost use Rattle.cb_shm.specs.HostileMemories.{memory_of, HasSameScript};
-ghost use Rattle.decoder_core.specs.ServiceViews.{with_put, IsAtRest};
-ghost use Rattle.decoder_core.specs.Served.{IsServed};
+ghost use Rattle.decoder_core.specs.ServiceView.{with_put, wire_of, IsAtRest};
+ghost use Rattle.decoder_core.specs.Side.{side};
+ghost use Rattle.decoder_core.specs.Serving.{IsServed};
 ghost use Rattle.gles2_run.specs.Puts.{TookPuts};
 
 use crate::desk::Desk;
@@ -20,8 +21,8 @@ fn take_put(
 ) -> Result<(), ServiceStop>
     requires some { 0 < service.old.fetch.entries }
     requires at_rest { IsAtRest service.old }
-    requires agrees { Agrees service.old.wire.es (history_of desk.old.driver).state }
-    ensures served { IsServed history_of Continues (with_put service.old put) (memory_of memory.old) desk.old.driver desk.old.answers service.new (memory_of memory.new) desk.new.driver desk.new.answers result }
+    requires agrees { Agrees (wire_of service.old) (history_of desk.old.driver).state }
+    ensures served { IsServed history_of Continues (side (with_put service.old put) (memory_of memory.old) desk.old.driver) desk.old.answers (side service.new (memory_of memory.new) desk.new.driver) desk.new.answers result }
     ensures grows { HasSameScript memory.old memory.new }
 {
     service.set_put(put);
@@ -37,8 +38,8 @@ pub fn take_puts(
 ) -> Result<(), ServiceStop>
     requires some { 0 < service.old.fetch.entries }
     requires at_rest { IsAtRest service.old }
-    requires agrees { Agrees service.old.wire.es (history_of desk.old.driver).state }
-    ensures taken { TookPuts service.old (memory_of memory.old) desk.old.driver desk.old.answers puts.now service.new (memory_of memory.new) desk.new.driver desk.new.answers result }
+    requires agrees { Agrees (wire_of service.old) (history_of desk.old.driver).state }
+    ensures taken { TookPuts (side service.old (memory_of memory.old) desk.old.driver) desk.old.answers puts.now (side service.new (memory_of memory.new) desk.new.driver) desk.new.answers result }
     ensures grows { HasSameScript memory.old memory.new }
 {
     for put in puts {

@@ -3,9 +3,10 @@ ghost use Rattle.std.specs.Prelude.{◌≡◌, ◌⊎◌, ◌≤◌, ◌<◌, �
 ghost use Rattle.io_edge.specs.Causes.{Rose};
 ghost use Rattle.gl_plain.specs.declared.commands.Stop.{Stop};
 ghost use Rattle.cb_shm.specs.declared.script.Script.{Script};
-ghost use Rattle.gl_plain.specs.Tables.{opening_wire, opening_driver};
+ghost use Rattle.gl_plain.specs.State.{opening_wire, opening_driver};
 ghost use Rattle.cb_fetch.specs.Seen.{seen};
-ghost use Rattle.gl_plain.specs.Part.{AreParts};
+ghost use Rattle.gl_plain.specs.Parts.{AreParts};
+ghost use Rattle.gl_plain.specs.driver.Answers.{AreAnsweredBy};
 ghost use Rattle.gl_plain.specs.Journal.{IsLegal};
 ghost use Rattle.ring_script.specs.Script.{script_in};
 ghost use Rattle.report_text.specs.declared.end.End.{End};
@@ -35,7 +36,7 @@ pub fn run<I: Source, O: Sink>(
     requires { desk ≡ new_desk }
 
     // Each driver call met its condition in the state that the earlier calls left, with every status.
-    ensures legal { IsLegal opening_driver result.1.driver.journal }
+    ensures legal { IsLegal (opening_driver result.1.driver.surface) result.1.driver.journal }
 
     // What the end was, what it says, and what was written of it, with every status.
     ensures output { (end : End) × Means end (map string_bytes words.now) (I.left source.old) (I.left source.new) (I.ended source.new) (I.faults source.old) (I.faults source.new) result.1
@@ -46,7 +47,11 @@ pub fn run<I: Source, O: Sink>(
 
     // The driver calls are one part for each command, in order.
     ensures parts { (input : List ℕ) (script : Script) → IsToldRing (map string_bytes words.now) (I.left source.old) (I.faults source.old) (I.faults source.new) input → script_in input ≡ Ok script
-        → IsTrue (is_run result.0) → AreParts opening_wire opening_driver (seen script).commands (answers_of script) result.1.driver.journal }
+        → IsTrue (is_run result.0) → AreParts (opening_wire script.surface) (seen script).commands (answers_of script) result.1.driver.journal }
+
+    // The answers of the driver calls are the first of those that the script gives.
+    ensures answers { (input : List ℕ) (script : Script) → IsToldRing (map string_bytes words.now) (I.left source.old) (I.faults source.old) (I.faults source.new) input → script_in input ≡ Ok script
+        → IsTrue (is_run result.0) → AreAnsweredBy (answers_of script) result.1.driver.journal }
 
     // An input that was not run leaves no replies and no driver calls.
     ensures unread { IsTrue (is_unrun result.0) → result.1 ≡ new_desk }

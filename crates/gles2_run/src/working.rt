@@ -1,5 +1,5 @@
 //! From the words and the input to an end.
-ghost use Rattle.std.specs.Prelude.{◌≡◌, ◌↔◌, ◌<◌, ◌≤◌, ◌^◌, map, length, IsTrue, OnOk, None, Some, IsErrOf, string_bytes, false, true};
+ghost use Rattle.std.specs.Prelude.{◌≡◌, ◌⊎◌, ◌↔◌, ◌<◌, ◌≤◌, ◌^◌, map, length, IsTrue, OnOk, None, Some, IsErrOf, string_bytes, false, true};
 ghost use Rattle.gl_plain.specs.declared.commands.Stop.{Stop};
 ghost use Rattle.gl_driver.specs.declared.stop.DriverStop.TheVariants as driver;
 ghost use Rattle.cb_shm.specs.Whole.{IsWholeScript};
@@ -24,37 +24,51 @@ fn is_ring(words: &[String]) -> bool
     }
 }
 
-/// Executes the commands of a script, in the memory that it describes, with a driver that answers as it says.
+/// Executes the commands of a script, in the memory that it describes, with a driver that answers as it says. What stands in the memory at
+/// first, and what is written there later, is kept by the memory alone.
 fn execute(alloc: Global, script: Script, desk: &mut Desk) -> Result<(), ServiceStop>
     requires whole { IsWholeScript script }
     requires fresh { desk.old ≡ new_desk }
     ensures done { OnOk result (((ring_run script).stop ≡ None) × HoldsRun script desk.new) }
     ensures bad { (stop : Stop) → IsErrOf result (ServiceStop.Bad stop) → ((ring_run script).stop ≡ Some stop) × HoldsRun script desk.new }
     ensures lost { IsErrOf result ServiceStop.Lost → HoldsFront true script desk.new × (script.answers.lost ≡ Some (length desk.new.driver.journal)) × (desk.new.driver.stop ≡ Some driver.Lost) }
-    ensures short { IsErrOf result ServiceStop.NoMemory → HoldsFront false script desk.new }
+    ensures short { IsErrOf result ServiceStop.NoMemory → (desk.new ≡ new_desk) ⊎ HoldsFront false script desk.new }
 {
     let Ok(mut memory) = HostileMemory::new(alloc, &script) else {
         return Err(ServiceStop::NoMemory);
     };
-    let mut service = Service::new(alloc, script.entries);
-    desk.driver.load(script.answers);
-    let taken = take_puts(&mut service, &mut memory, script.puts.as_slice(), desk);
-    // The journal's clauses say how many calls there are at most, and at which of them the driver was lost.
+    let Script {
+        surface,
+        entries,
+        regions,
+        opening,
+        timed,
+        puts,
+        answers,
+    } = script;
+    drop(regions);
+    drop(opening);
+    drop(timed);
+    let mut service = Service::new(alloc, surface, entries);
+    desk.driver.load(surface, answers);
+    let taken = take_puts(&mut service, &mut memory, puts.as_slice(), desk);
+    // The journal's clauses say what the driver answered, how many calls there are at most, and at which of them it was lost.
     desk.driver.journal();
     taken
 }
 
-/// Runs the script that a text is.
-fn run_text(alloc: Global, text: &[u8], desk: &mut Desk) -> End
+/// Runs the script that a text is. The text is not kept while the script runs.
+fn run_text(alloc: Global, text: Vec<u8>, desk: &mut Desk) -> End
     requires fresh { desk.old ≡ new_desk }
-    requires short { length text.now ≤ INPUT_LIMIT }
-    ensures { TextMeans result text.now desk.new }
+    requires short { length text.items ≤ INPUT_LIMIT }
+    ensures { TextMeans result text.items desk.new }
 {
-    let script = match read_script(alloc, text) {
+    let script = match read_script(alloc, &text) {
         Ok(script) => script,
         Err(ReadRefusal::BadLine(number)) => return End::BadLine(number),
         Err(ReadRefusal::NoMemory) => return End::NoMemory,
     };
+    drop(text);
     match execute(alloc, script, desk) {
         Ok(()) => End::Done,
         Err(ServiceStop::Bad(stop)) => End::Stopped(stop),
@@ -72,7 +86,7 @@ pub fn work<I: Source>(alloc: Global, words: &[String], source: &mut I, desk: &m
         return End::Usage;
     }
     match read_all(alloc, source) {
-        Ok(text) => run_text(alloc, &text, desk),
+        Ok(text) => run_text(alloc, text, desk),
         Err(ReadStop::Fault) => End::ReadFault,
         Err(ReadStop::TooLong) => End::TooLong,
         Err(ReadStop::NoMemory) => End::NoMemory,

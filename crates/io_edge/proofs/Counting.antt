@@ -10,6 +10,6 @@ Rose-later a b c later rose = grind arith
 -- a count that goes up at each failed call has its cause
 pub counted_cause : {T E : Type 0} (before now : ℕ) (result : Result T E)
     → now ≡ count_after result before → HasCause before now result
-counted_cause before now (Ok value) counted = record { later = grind (arith, nat_tests); failed = tt }
+counted_cause before now (Ok value) counted = record { later = grind (arith, nat_tests); failed = tt; kept = counted }
 counted_cause before now (Err e) counted =
-    record { later = grind (arith, nat_tests); failed = grind (arith, nat_tests) }
+    record { later = grind (arith, nat_tests); failed = grind (arith, nat_tests); kept = tt }

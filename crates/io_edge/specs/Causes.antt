@@ -1,5 +1,5 @@
 -- When a count of faults rises.
-use Rattle.std.specs.Prelude.{ℕ, ◌+◌, ◌-◌, ◌^◌, ◌<◌, ◌≤◌, ◌⊎◌, nat_lt, if◌then◌else◌, Result, is_err, OnErr}
+use Rattle.std.specs.Prelude.{◌≡◌, ℕ, ◌+◌, ◌-◌, ◌^◌, ◌<◌, ◌≤◌, ◌⊎◌, nat_lt, if◌then◌else◌, Result, is_err, OnErr, OnOk}
 
 -- one more than a count of 64 bits, which stands still at its last value
 abbrev pub one_more : ℕ → ℕ
@@ -13,7 +13,8 @@ count_after result count = if is_err result then one_more count else count
 abbrev pub Rose : ℕ → ℕ → Type 0
 Rose before now = (before < now) ⊎ (2 ^ 64 - 1 ≤ now)
 
--- a count of faults does not fall, and rose where the call failed
+-- a count of faults does not fall; it rose where the call failed, and stands still where it did not
 pub record HasCause {T E : Type 0} (before now : ℕ) (result : Result T E) : Type 0 where
   pub later : before ≤ now
   pub failed : OnErr result (Rose before now)
+  pub kept : OnOk result (now ≡ before)

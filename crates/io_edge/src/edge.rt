@@ -4,8 +4,11 @@ ghost use Rattle.std.specs.Io.{ReadsAtMost, WritesAtMost};
 ghost use Rattle.std.specs.Io.KnownBytes.{ReadConsumes, WriteAppends};
 ghost use Rattle.io_edge.specs.Causes.{HasCause};
 
+use thiserror::Error;
+
 /// A call failed, and the bytes are as before.
-#[derive(Clone, Copy, Debug, PartialEq, Eq)]
+#[derive(Clone, Copy, Debug, PartialEq, Eq, Error)]
+#[error("a read or a write failed")]
 pub struct Failed;
 
 /// Where bytes come from.

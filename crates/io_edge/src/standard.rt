@@ -8,6 +8,9 @@ use crate::edge::is_end;
 use crate::{Failed, Sink, Source};
 use std::io::{Read, Write};
 
+#[cfg(test)]
+mod tests;
+
 /// A reader whose errors are counted. It tells the bytes that the reader tells: none of standard input.
 #[derive(Drop)]
 pub struct StdSource<R> {

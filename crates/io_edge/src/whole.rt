@@ -1,11 +1,12 @@
 //! Reading a whole input, and writing a whole text.
-ghost use Rattle.std.specs.Prelude.{◌≡◌, ◌<◌, ◌≤◌, List, ℕ, length, IfOk, OnOk, OnErr, IsErrOf};
+ghost use Rattle.std.specs.Prelude.{◌≡◌, ◌≢◌, ◌<◌, ◌≤◌, List, ℕ, length, IfOk, OnOk, OnErr, IsErrOf};
 ghost use Rattle.std.specs.Io.KnownBytes.{Consumes, Appends, IsAtEnd};
 ghost use Rattle.io_edge.specs.Causes.{Rose};
 ghost use Rattle.io_edge.specs.Pieces.{ConsumesFront, AppendsFront};
 
 use crate::{Failed, Sink, Source};
 use std::alloc::{AllocError, Global};
+use thiserror::Error;
 
 /// The most bytes that an input may have.
 pub const INPUT_LIMIT: usize = 67_108_864;
@@ -14,13 +15,16 @@ pub const INPUT_LIMIT: usize = 67_108_864;
 const BLOCK: usize = 65_536;
 
 /// Why an input was not read to its end.
-#[derive(Clone, Copy, Debug, PartialEq, Eq)]
+#[derive(Clone, Copy, Debug, PartialEq, Eq, Error)]
 pub enum ReadStop {
     /// A read failed.
+    #[error("a read failed")]
     Fault,
     /// The input has more than `INPUT_LIMIT` bytes.
+    #[error("the input has more than {INPUT_LIMIT} bytes")]
     TooLong,
     /// There was no memory for the input.
+    #[error("there was no memory for the input")]
     NoMemory,
 }
 
@@ -36,6 +40,7 @@ pub fn read_all<I: Source>(alloc: Global, source: &mut I) -> Result<Vec<u8>, Rea
         (bs : List ℕ) × Consumes (I.left source.old) (I.left source.new) bs × (INPUT_LIMIT < length bs) }
     ensures fault { IsErrOf result ReadStop.Fault → Rose (I.faults source.old) (I.faults source.new) }
     ensures part { OnErr result (ConsumesFront (I.left source.old) (I.left source.new)) }
+    ensures kept { result ≢ Err ReadStop.Fault → I.faults source.new ≡ I.faults source.old }
     ensures later { I.faults source.old ≤ I.faults source.new }
 {
     let Ok(mut block) = block_of(alloc, BLOCK) else {
@@ -67,6 +72,7 @@ fn read_blocks<I: Source>(
         (bs : List ℕ) × Consumes (I.left source.old) (I.left source.new) bs × (INPUT_LIMIT < length bs) }
     ensures fault { IsErrOf result ReadStop.Fault → Rose (I.faults source.old) (I.faults source.new) }
     ensures part { OnErr result (ConsumesFront (I.left source.old) (I.left source.new)) }
+    ensures kept { result ≢ Err ReadStop.Fault → I.faults source.new ≡ I.faults source.old }
     ensures later { I.faults source.old ≤ I.faults source.new }
 {
     let mut all = Vec::new(alloc);
@@ -92,6 +98,7 @@ pub fn write_all<O: Sink>(sink: &mut O, bytes: &[u8]) -> Result<(), Failed>
     ensures whole { OnOk result (Appends (O.held sink.old) (O.held sink.new) bytes.now) }
     ensures part { OnErr result (AppendsFront (O.held sink.old) (O.held sink.new) bytes.now) }
     ensures fault { OnErr result (Rose (O.faults sink.old) (O.faults sink.new)) }
+    ensures kept { OnOk result (O.faults sink.new ≡ O.faults sink.old) }
     ensures later { O.faults sink.old ≤ O.faults sink.new }
 {
     let mut rest = bytes;

@@ -1,3 +1,3 @@
 -- The lemmas that proofs share.
-pub mod LinesSoFar
-pub mod Padded
+pub mod HexDigits
+pub mod Spaced

@@ -3,19 +3,20 @@ use Rattle.std.specs.Prelude.{ℕ, List, ◌++◌, codes}
 use Rattle.std.specs.Fmt.{decimal}
 use Rattle.gl_plain.specs.declared.commands.Malformed.{Malformed}
 use Rattle.gl_plain.specs.declared.commands.Malformed.TheVariants.{InvalidSize, OutOfBounds, UnknownCommand, InvalidArguments}
+use Rattle.report_text.specs.declared.statuses.TheConstants.{DONE, USAGE, BAD_LINE, READ_FAULT, STOPPED, NO_MEMORY, LOST, TOO_LONG}
 use Rattle.report_text.specs.declared.end.End.{End}
 use Rattle.report_text.specs.declared.end.End.TheVariants.{Done, Usage, BadLine, ReadFault, Stopped, NoMemory, Lost, TooLong}
 
 -- each way to end has a status of its own
 abbrev pub status_of : End → ℕ
-status_of Done = 0
-status_of Usage = 2
-status_of (BadLine number) = 3
-status_of ReadFault = 4
-status_of (Stopped stop) = 6
-status_of NoMemory = 7
-status_of Lost = 8
-status_of TooLong = 9
+status_of Done = DONE
+status_of Usage = USAGE
+status_of (BadLine number) = BAD_LINE
+status_of ReadFault = READ_FAULT
+status_of (Stopped stop) = STOPPED
+status_of NoMemory = NO_MEMORY
+status_of Lost = LOST
+status_of TooLong = TOO_LONG
 
 -- why a command is malformed, in one word
 abbrev pub kind_text : Malformed → List ℕ

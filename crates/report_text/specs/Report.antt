@@ -7,6 +7,10 @@ use Rattle.report_text.specs.Ends.{end_text}
 use Rattle.report_text.specs.Journal.{journal_text}
 use Rattle.report_text.specs.Replies.{reply_text}
 
--- a run prints its replies, then its driver calls, then how it ended
+-- of what was done the replies are printed, then the driver calls
+abbrev pub work_text : List Reply → List DriverEntry → List ℕ
+work_text replies journal = reply_text replies ++ journal_text journal
+
+-- a run prints what was done, then how it ended
 abbrev pub output_text : List Reply → List DriverEntry → End → List ℕ
-output_text replies journal end = reply_text replies ++ (journal_text journal ++ end_text end)
+output_text replies journal end = work_text replies journal ++ end_text end

@@ -1,13 +1,17 @@
 -- The arguments of a call as they are printed.
-use Rattle.std.specs.Prelude.{ℕ, ◌-◌, List, ◌++◌, length, take, replicate, Bool, true, ◌==◌, nat_le, if◌then◌else◌, codes}
-use Rattle.std.specs.Fmt.{decimal, digits}
+use Rattle.std.specs.Prelude.{ℕ, ◌-◌, List, [], ◌∷◌, ◌++◌, length, map, take, replicate, Bool, true, ◌==◌, nat_le, if◌then◌else◌, codes}
+use Rattle.std.specs.Fmt.{decimal, signed_decimal, digits}
 use Rattle.hex.specs.Hex.{encode_lower}
+use Rattle.gl_plain.specs.Fields.{digit_zero}
+use Rattle.report_text.specs.declared.arguments.Argument.{Argument}
+use Rattle.report_text.specs.declared.arguments.Argument.TheVariants.{Number, Signed, Enum, Flag, Patterns, Data}
+use Rattle.report_text.specs.declared.values.TheConstants.{SHOWN}
 
 -- a number is `0x` and its upper-case digits, with zeros before them where they are fewer than the width
 abbrev pub upper_hex : ℕ → ℕ → List ℕ
 upper_hex width value =
     let numeral = digits 16 true value in
-    codes "0x" ++ (replicate (width - length numeral) 48 ++ numeral)
+    codes "0x" ++ (replicate (width - length numeral) digit_zero ++ numeral)
 
 -- an enum has at least four digits
 unfoldable pub enum_text : ℕ → List ℕ
@@ -25,9 +29,19 @@ flag_text flag = if flag then codes "1" else codes "0"
 unfoldable pub shown_bytes : List ℕ → List ℕ
 shown_bytes bytes =
     if length bytes == 0 then codes "-"
-    else if nat_le (length bytes) 32 then encode_lower bytes
-    else encode_lower (take 32 bytes) ++ codes "+"
+    else if nat_le (length bytes) SHOWN then encode_lower bytes
+    else encode_lower (take SHOWN bytes) ++ codes "+"
 
 -- bytes are their number, a colon and what is shown of them
 unfoldable pub bytes_text : List ℕ → List ℕ
 bytes_text bytes = decimal (length bytes) ++ (codes ":" ++ shown_bytes bytes)
+
+-- the words of arguments
+abbrev pub words : List Argument → List (List ℕ)
+words [] = []
+words (Number number ∷ rest) = decimal number ∷ words rest
+words (Signed number ∷ rest) = signed_decimal number ∷ words rest
+words (Enum value ∷ rest) = enum_text value.0 ∷ words rest
+words (Flag flag ∷ rest) = flag_text flag ∷ words rest
+words (Patterns patterns ∷ rest) = map pattern_text patterns.now ++ words rest
+words (Data bytes ∷ rest) = bytes_text bytes.now ∷ words rest

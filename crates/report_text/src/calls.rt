@@ -1,88 +1,59 @@
 //! A driver call and its answer as they are printed.
-ghost use Rattle.std.specs.Prelude.{◌≡◌, ◌++◌, OnOk, string_bytes};
-ghost use Rattle.gl_plain.specs.declared.driver_calls.ObjectDriver.TheVariants.{BufferData, BufferSubData, VertexAttribPointer};
+ghost use Rattle.std.specs.Prelude.{◌≡◌, ◌++◌, OnOk};
 ghost use Rattle.report_text.specs.Calls.{object_text, call_text, answer_text};
+ghost use Rattle.report_text.specs.Lines.{spaced};
+ghost use Rattle.report_text.specs.Values.{words};
 
-use crate::values::{EnumText, flag_digit, write_bytes, write_patterns};
-use gl_base::GlEnum;
+use crate::arguments::Argument;
+use crate::values::write_number;
+use crate::words::write_words;
+use Argument::{Data, Enum, Flag, Number, Patterns, Signed};
 use gl_plain::{Answer, DriverCall, ObjectDriver};
 use std::alloc::AllocError;
 
-#[tactic(auto, unfolding(crate::specs::Calls::object_text))]
-fn write_buffer_data(
-    out: &mut String,
-    target: GlEnum,
-    bytes: &[u8],
-    usage: GlEnum,
-) -> Result<(), AllocError>
-    ensures { OnOk result (string_bytes out.new ≡ string_bytes out.old ++ object_text (BufferData target bytes.now usage)) }
+/// Writes the name of a call and its arguments.
+fn write_named(line: &mut Vec<u8>, name: &str, arguments: &[Argument]) -> Result<(), AllocError>
+    ensures { OnOk result (line.new.items ≡ line.old.items ++ (name.now ++ spaced (words arguments.now))) }
 {
-    let target = EnumText(target);
-    let usage = EnumText(usage);
-    write!(out, "buffer_data {target} ")?;
-    write_bytes(out, bytes)?;
-    write!(out, " {usage}")
+    line.extend_from_slice(name.as_bytes())?;
+    write_words(line, arguments)
 }
 
 #[tactic(auto, unfolding(crate::specs::Calls::object_text))]
-fn write_buffer_sub_data(
-    out: &mut String,
-    target: GlEnum,
-    offset: i32,
-    bytes: &[u8],
-) -> Result<(), AllocError>
-    ensures { OnOk result (string_bytes out.new ≡ string_bytes out.old ++ object_text (BufferSubData target offset bytes.now)) }
-{
-    let target = EnumText(target);
-    write!(out, "buffer_sub_data {target} {offset} ")?;
-    write_bytes(out, bytes)
-}
-
-#[tactic(auto, unfolding(crate::specs::Calls::object_text))]
-fn write_pointer(
-    out: &mut String,
-    index: u32,
-    size: i32,
-    kind: GlEnum,
-    normalized: bool,
-    stride: i32,
-    offset: u32,
-) -> Result<(), AllocError>
-    ensures { OnOk result (string_bytes out.new ≡ string_bytes out.old ++ object_text (VertexAttribPointer index size kind normalized stride offset)) }
-{
-    let kind = EnumText(kind);
-    let normalized = flag_digit(normalized);
-    write!(
-        out,
-        "vertex_attrib_pointer {index} {size} {kind} {normalized} {stride} {offset}"
-    )
-}
-
-#[tactic(auto, unfolding(crate::specs::Calls::object_text))]
-fn write_object(out: &mut String, call: &ObjectDriver) -> Result<(), AllocError>
-    ensures { OnOk result (string_bytes out.new ≡ string_bytes out.old ++ object_text call.now) }
+fn write_object(line: &mut Vec<u8>, call: &ObjectDriver) -> Result<(), AllocError>
+    ensures { OnOk result (line.new.items ≡ line.old.items ++ object_text call.now) }
 {
     match call {
-        ObjectDriver::GenBuffer => out.push_str("gen_buffer"),
+        ObjectDriver::GenBuffer => write_named(line, "gen_buffer", &[]),
         ObjectDriver::BindBuffer { target, name } => {
-            let target = EnumText(*target);
-            write!(out, "bind_buffer {target} {name}")
+            write_named(line, "bind_buffer", &[Enum(*target), Number(*name)])
         }
         ObjectDriver::BufferData {
             target,
             bytes,
             usage,
-        } => write_buffer_data(out, *target, bytes.as_slice(), *usage),
+        } => write_named(
+            line,
+            "buffer_data",
+            &[Enum(*target), Data(bytes.as_slice()), Enum(*usage)],
+        ),
         ObjectDriver::BufferSubData {
             target,
             offset,
             bytes,
-        } => write_buffer_sub_data(out, *target, *offset, bytes.as_slice()),
-        ObjectDriver::DeleteBuffer { name } => write!(out, "delete_buffer {name}"),
-        ObjectDriver::VertexAttrib4 { index, values } => {
-            write!(out, "vertex_attrib_4 {index}")?;
-            write_patterns(out, values)
+        } => write_named(
+            line,
+            "buffer_sub_data",
+            &[Enum(*target), Signed(*offset), Data(bytes.as_slice())],
+        ),
+        ObjectDriver::DeleteBuffer { name } => {
+            write_named(line, "delete_buffer", &[Number(*name)])
         }
+        ObjectDriver::VertexAttrib4 { index, values } => write_named(
+            line,
+            "vertex_attrib_4",
+            &[Number(u64::from(*index)), Patterns(values)],
+        ),
         ObjectDriver::VertexAttribPointer {
             index,
             size,
@@ -90,32 +61,47 @@ fn write_object(out: &mut String, call: &ObjectDriver) -> Result<(), AllocError>
             normalized,
             stride,
             offset,
-        } => write_pointer(out, *index, *size, *kind, *normalized, *stride, *offset),
-        ObjectDriver::SetArray { index, on } => {
-            let on = flag_digit(*on);
-            write!(out, "set_array {index} {on}")
-        }
+        } => write_named(
+            line,
+            "vertex_attrib_pointer",
+            &[
+                Number(u64::from(*index)),
+                Signed(*size),
+                Enum(*kind),
+                Flag(*normalized),
+                Signed(*stride),
+                Number(u64::from(*offset)),
+            ],
+        ),
+        ObjectDriver::SetArray { index, on } => write_named(
+            line,
+            "set_array",
+            &[Number(u64::from(*index)), Flag(*on)],
+        ),
     }
 }
 
 /// Writes the name of a call and its arguments.
 #[tactic(auto, unfolding(crate::specs::Calls::call_text))]
-pub fn write_call(out: &mut String, call: &DriverCall) -> Result<(), AllocError>
-    ensures { OnOk result (string_bytes out.new ≡ string_bytes out.old ++ call_text call.now) }
+pub fn write_call(line: &mut Vec<u8>, call: &DriverCall) -> Result<(), AllocError>
+    ensures { OnOk result (line.new.items ≡ line.old.items ++ call_text call.now) }
 {
     match call {
-        DriverCall::Object(call) => write_object(out, call),
+        DriverCall::Object(call) => write_object(line, call),
     }
 }
 
 /// Writes what an answer adds to the line of its call.
 #[tactic(auto, unfolding(crate::specs::Calls::answer_text))]
-pub fn write_answer(out: &mut String, answer: &Answer) -> Result<(), AllocError>
-    ensures { OnOk result (string_bytes out.new ≡ string_bytes out.old ++ answer_text answer.now) }
+pub fn write_answer(line: &mut Vec<u8>, answer: &Answer) -> Result<(), AllocError>
+    ensures { OnOk result (line.new.items ≡ line.old.items ++ answer_text answer.now) }
 {
     match answer {
         Answer::Done => Ok(()),
-        Answer::Name(name) => write!(out, " -> {name}"),
-        Answer::Oom => out.push_str(" -> oom"),
+        Answer::Name(name) => {
+            line.extend_from_slice(b" -> ")?;
+            write_number(line, *name)
+        }
+        Answer::Oom => line.extend_from_slice(b" -> oom"),
     }
 }

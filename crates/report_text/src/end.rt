@@ -1,8 +1,11 @@
 //! How a run ends, and what that prints.
-ghost use Rattle.std.specs.Prelude.{◌≡◌, ◌++◌, IfOk, OnOk, OnErr, string_bytes};
+ghost use Rattle.std.specs.Prelude.{◌≡◌, ◌++◌, IfOk, OnOk};
 ghost use Rattle.report_text.specs.Ends.{status_of, kind_text, end_text};
 
-use gl_plain::{Malformed, Stop};
+use crate::statuses;
+use crate::text::Text;
+use crate::values::write_number;
+use gl_plain::{Bytes, Malformed, Stop};
 use std::alloc::{AllocError, Global};
 
 /// How a run ends.
@@ -32,14 +35,14 @@ impl End {
         ensures { result ≡ status_of self }
     {
         match self {
-            End::Done => 0,
-            End::Usage => 2,
-            End::BadLine(_) => 3,
-            End::ReadFault => 4,
-            End::Stopped(_) => 6,
-            End::NoMemory => 7,
-            End::Lost => 8,
-            End::TooLong => 9,
+            End::Done => statuses::DONE,
+            End::Usage => statuses::USAGE,
+            End::BadLine(_) => statuses::BAD_LINE,
+            End::ReadFault => statuses::READ_FAULT,
+            End::Stopped(_) => statuses::STOPPED,
+            End::NoMemory => statuses::NO_MEMORY,
+            End::Lost => statuses::LOST,
+            End::TooLong => statuses::TOO_LONG,
         }
     }
 }
@@ -55,31 +58,38 @@ fn kind_name(kind: Malformed) -> &'static str
     }
 }
 
+/// Writes what says how a run ended.
 #[tactic(auto, unfolding(crate::specs::Ends::end_text))]
-fn end_line(alloc: Global, end: End) -> Result<String, AllocError>
-    ensures { IfOk result (λ text. string_bytes text ≡ end_text end) }
+pub(crate) fn write_end(line: &mut Vec<u8>, end: &End) -> Result<(), AllocError>
+    ensures { OnOk result (line.new.items ≡ line.old.items ++ end_text end.now) }
 {
     match end {
-        End::Done => String::from_str(alloc, "end ok\n"),
-        End::Usage => String::from_str(alloc, "usage: gles2_cli ring\n"),
-        End::BadLine(number) => format!(in alloc; "bad line {number}\n"),
-        End::ReadFault => String::from_str(alloc, "end read fault\n"),
-        End::Stopped(stop) => {
-            let kind = kind_name(stop.kind);
-            let place = stop.place;
-            format!(in alloc; "stop {kind} {place}\n")
+        End::Done => line.extend_from_slice(b"end ok\n"),
+        End::Usage => line.extend_from_slice(b"usage: gles2_cli ring\n"),
+        End::BadLine(number) => {
+            line.extend_from_slice(b"bad line ")?;
+            write_number(line, u64::from(*number))?;
+            line.extend_from_slice(b"\n")
         }
-        End::NoMemory => String::from_str(alloc, "end no memory\n"),
-        End::Lost => String::from_str(alloc, "end driver lost\n"),
-        End::TooLong => String::from_str(alloc, "end too long\n"),
+        End::ReadFault => line.extend_from_slice(b"end read fault\n"),
+        End::Stopped(stop) => {
+            line.extend_from_slice(b"stop ")?;
+            line.extend_from_slice(kind_name(stop.kind).as_bytes())?;
+            line.extend_from_slice(b" ")?;
+            write_number(line, u64::from(stop.place))?;
+            line.extend_from_slice(b"\n")
+        }
+        End::NoMemory => line.extend_from_slice(b"end no memory\n"),
+        End::Lost => line.extend_from_slice(b"end driver lost\n"),
+        End::TooLong => line.extend_from_slice(b"end too long\n"),
     }
 }
 
-/// Writes the line that says how a run ended. Where memory is missing, the text is as before.
-pub fn write_end(alloc: Global, out: &mut String, end: End) -> Result<(), AllocError>
-    ensures ok { OnOk result (string_bytes out.new ≡ string_bytes out.old ++ end_text end) }
-    ensures err { OnErr result (string_bytes out.new ≡ string_bytes out.old) }
+/// The line that says how a run ended.
+pub fn end_line(alloc: Global, end: &End) -> Result<Bytes, AllocError>
+    ensures { IfOk result (λ line. line ≡ end_text end.now) }
 {
-    let line = end_line(alloc, end)?;
-    out.push_str(&line)
+    let mut text = Text::new(alloc);
+    text.push_end(end)?;
+    Ok(text.into_bytes())
 }

@@ -1,36 +1,34 @@
 //! The lines of a journal.
-ghost use Rattle.std.specs.Prelude.{◌≡◌, ◌++◌, ℕ, OnOk, OnErr, take, string_bytes};
-ghost use Rattle.report_text.specs.Journal.{journal_text};
+ghost use Rattle.std.specs.Prelude.{◌≡◌, IfOk};
+ghost use Rattle.report_text.specs.Journal.{journal_line};
 
 use crate::calls::{write_answer, write_call};
-use crate::lines::{Line, write_lines};
-use gl_plain::DriverEntry;
+use crate::text::{Line, Text};
+use crate::values::write_number;
+use gl_plain::{Bytes, DriverEntry};
 use std::alloc::{AllocError, Global};
 
 impl Line for DriverEntry {
     ghost use Rattle.report_text.specs.Journal.{journal_line};
 
-    ghost line = { journal_line };
+    ghost printed = { journal_line };
 
     #[tactic(auto, unfolding(crate::specs::Journal::journal_line))]
-    fn write_line(&self, k: usize, out: &mut String) -> Result<(), AllocError> {
-        write!(out, "driver {k} ")?;
-        write_call(out, &self.call)?;
-        write_answer(out, &self.answer)?;
-        out.push_str("\n")
+    fn write_line(&self, number: u64, line: &mut Vec<u8>) -> Result<(), AllocError> {
+        line.extend_from_slice(b"driver ")?;
+        write_number(line, number)?;
+        line.extend_from_slice(b" ")?;
+        write_call(line, &self.call)?;
+        write_answer(line, &self.answer)?;
+        line.extend_from_slice(b"\n")
     }
 }
 
-/// Writes a line for each driver call and its answer, numbered from 0.
-///
-/// Where memory is missing, the first lines were written whole, and the others not at all.
-pub fn write_journal(
-    alloc: Global,
-    out: &mut String,
-    entries: &[DriverEntry],
-) -> Result<(), AllocError>
-    ensures ok { OnOk result (string_bytes out.new ≡ string_bytes out.old ++ journal_text entries.now) }
-    ensures err { OnErr result ((k : ℕ) × (string_bytes out.new ≡ string_bytes out.old ++ journal_text (take k entries.now))) }
+/// The line of a driver call and its answer, with the number of the call.
+pub fn journal_line(alloc: Global, number: u64, entry: &DriverEntry) -> Result<Bytes, AllocError>
+    ensures { IfOk result (λ line. line ≡ journal_line number entry.now) }
 {
-    write_lines(alloc, out, entries)
+    let mut text = Text::new(alloc);
+    text.push(number, entry)?;
+    Ok(text.into_bytes())
 }

@@ -1,17 +1,19 @@
 //! What a run prints: its replies, the driver calls it made, and how it ended.
 #![tactic(auto)]
 
+mod arguments;
 mod calls;
 mod end;
 mod journal;
-mod lines;
 mod replies;
-mod report;
+pub mod statuses;
 #[cfg(test)]
 mod tests;
+mod text;
 mod values;
+mod words;
 
-pub use end::{End, write_end};
-pub use journal::write_journal;
-pub use replies::write_replies;
-pub use report::write_report;
+pub use end::{End, end_line};
+pub use journal::journal_line;
+pub use replies::reply_line;
+pub use text::{Line, Text};

@@ -1,64 +1,74 @@
 //! The lines of replies.
-ghost use Rattle.std.specs.Prelude.{◌≡◌, ◌++◌, ℕ, OnOk, OnErr, take, map, string_bytes};
+ghost use Rattle.std.specs.Prelude.{◌≡◌, ◌++◌, OnOk, IfOk, codes, map};
 ghost use Rattle.std.specs.Fmt.{decimal};
 ghost use Rattle.report_text.specs.Lines.{spaced};
-ghost use Rattle.report_text.specs.Replies.{code_text, reply_text};
+ghost use Rattle.report_text.specs.Replies.{code_text, reply_line};
 
-use crate::lines::{Line, write_lines};
+use crate::text::{Line, Text};
+use crate::values::write_number;
 use gl_base::error_name;
-use gl_plain::Reply;
+use gl_plain::{Bytes, Reply};
 use std::alloc::{AllocError, Global};
 
 /// Writes each name with a space before it.
-fn write_names(out: &mut String, names: &[u32]) -> Result<(), AllocError>
-    ensures { OnOk result (string_bytes out.new ≡ string_bytes out.old ++ spaced (map decimal names.now)) }
+fn write_names(line: &mut Vec<u8>, names: &[u32]) -> Result<(), AllocError>
+    ensures { OnOk result (line.new.items ≡ line.old.items ++ spaced (map decimal names.now)) }
 {
     for name in names {
-        let name = *name;
-        write!(out, " {name}")?;
+        line.extend_from_slice(b" ")?;
+        write_number(line, u64::from(*name))?;
     }
     Ok(())
 }
 
 /// Writes an error code by its name. A number that is no error code, which no reply has, is written as it is.
-fn write_code(out: &mut String, code: u32) -> Result<(), AllocError>
-    ensures { OnOk result (string_bytes out.new ≡ string_bytes out.old ++ code_text code) }
+fn write_code(line: &mut Vec<u8>, code: u32) -> Result<(), AllocError>
+    ensures { OnOk result (line.new.items ≡ line.old.items ++ code_text code) }
 {
     match error_name(code) {
-        Some(name) => out.push_str(name),
-        None => write!(out, "{code}"),
+        Some(name) => line.extend_from_slice(name.as_bytes()),
+        None => write_number(line, u64::from(code)),
     }
+}
+
+/// Writes the front of a reply's line.
+fn write_front(line: &mut Vec<u8>, number: u64) -> Result<(), AllocError>
+    ensures { OnOk result (line.new.items ≡ line.old.items ++ (codes "reply " ++ decimal number)) }
+{
+    line.extend_from_slice(b"reply ")?;
+    write_number(line, number)
 }
 
 impl Line for Reply {
     ghost use Rattle.report_text.specs.Replies.{reply_line};
 
-    ghost line = { reply_line };
+    ghost printed = { reply_line };
 
     #[tactic(auto, unfolding(crate::specs::Replies::reply_line))]
-    fn write_line(&self, k: usize, out: &mut String) -> Result<(), AllocError> {
+    fn write_line(&self, number: u64, line: &mut Vec<u8>) -> Result<(), AllocError> {
         match self {
             Reply::None => Ok(()),
             Reply::Names(names) => {
-                write!(out, "reply {k} names")?;
-                write_names(out, names.as_slice())?;
-                out.push_str("\n")
+                write_front(line, number)?;
+                line.extend_from_slice(b" names")?;
+                write_names(line, names.as_slice())?;
+                line.extend_from_slice(b"\n")
             }
             Reply::Error(code) => {
-                write!(out, "reply {k} error ")?;
-                write_code(out, *code)?;
-                out.push_str("\n")
+                write_front(line, number)?;
+                line.extend_from_slice(b" error ")?;
+                write_code(line, *code)?;
+                line.extend_from_slice(b"\n")
             }
         }
     }
 }
 
-/// Writes a line for each reply that gives something back, with its number among all replies, from 0.
-///
-/// Where memory is missing, the first lines were written whole, and the others not at all.
-pub fn write_replies(alloc: Global, out: &mut String, replies: &[Reply]) -> Result<(), AllocError>
-    ensures ok { OnOk result (string_bytes out.new ≡ string_bytes out.old ++ reply_text replies.now) }
-    ensures err { OnErr result ((k : ℕ) × (string_bytes out.new ≡ string_bytes out.old ++ reply_text (take k replies.now))) }
+/// The line of a reply with its number, or nothing where it gives nothing back.
+pub fn reply_line(alloc: Global, number: u64, reply: &Reply) -> Result<Bytes, AllocError>
+    ensures { IfOk result (λ line. line ≡ reply_line number reply.now) }
 {
-    write_lines(alloc, out, replies)
+    let mut text = Text::new(alloc);
+    text.push(number, reply)?;
+    Ok(text.into_bytes())
 }

@@ -11,15 +11,18 @@ use Rattle.gl_plain.specs.declared.memory.Timed.{Timed}
 use Rattle.cb_shm.specs.declared.script.Script.{Script}
 use Rattle.cb_shm.specs.Hostile.{listed_size, script_sizes}
 use Rattle.cb_shm.specs.Whole.{AreDistinct, HasNumber, IsPatchInside, IsTimedInside}
-use Rattle.ring_script.specs.Distinct.{is_listed}
+use Rattle.gl_plain.specs.declared.common_lines.AnswersDraft.{AnswersDraft}
+use Rattle.gl_plain.specs.declared.common_lines.CommonLine.{CommonLine}
+use Rattle.gl_plain.specs.declared.common_lines.CommonLine.TheVariants.{Ring, Oom, Lost}
+use Rattle.gl_plain.specs.CommonLines.{with_oom, with_lost}
 use Rattle.ring_script.specs.Limits.{listed_bytes, total_bytes, IsSmall}
-use Rattle.ring_script.specs.Rules.{draft_after, empty_draft, is_first, script_of, with_lost, with_oom, with_opening, with_put, with_region, with_ring, with_timed, IsSound}
+use Rattle.ring_script.specs.Rules.{draft_after, empty_draft, is_first, script_of, with_answers, with_common, with_opening, with_put, with_region, with_ring, with_timed, IsSound}
 use Rattle.ring_script.specs.Script.{draft_with}
 use Rattle.ring_script.specs.Lines.{line_in}
 use Rattle.ring_script.specs.declared.draft.Draft.{Draft}
 use Rattle.ring_script.specs.declared.line.Line.{Line}
-use Rattle.ring_script.specs.declared.line.Line.TheVariants.{PassedOver, Ring, Region as OfRegion, Opening, At, Put, Oom, Lost}
-use Rattle.ring_script.specs.Fields.{◌>>=◌}
+use Rattle.ring_script.specs.declared.line.Line.TheVariants.{PassedOver, Region as OfRegion, Opening, At, Put, Common}
+use Rattle.gl_plain.specs.Fields.{◌>>=◌}
 
 -- what a test lets through
 let_through : {A : Type 0} (b : Bool) (x y : A) → (if b then Some x else None) ≡ Some y → (b ≡ true) × (x ≡ y)
@@ -189,8 +192,8 @@ sound_timed draft next t sound e =
     })
 
 -- a line that says nothing of the memory
-sound_beside : (draft : Draft) (puts oom : List ℕ) (lost : Option ℕ) → IsSound draft → IsSound (record draft { puts = puts; oom = oom; lost = lost })
-sound_beside draft puts oom lost sound = record {
+sound_beside : (draft : Draft) (puts : List ℕ) (answers : AnswersDraft) → IsSound draft → IsSound (record draft { puts = puts; answers = answers })
+sound_beside draft puts answers sound = record {
   whole = record {
     some_entries = sound.whole.some_entries;
     few_entries = sound.whole.few_entries;
@@ -206,33 +209,30 @@ sound_beside draft puts oom lost sound = record {
 sound_put : (draft next : Draft) (put : ℕ) → IsSound draft → Some (with_put draft put) ≡ Some next → IsSound next
 sound_put draft next put sound e =
     let same : with_put draft put ≡ next = cc in
-    subst IsSound same (sound_beside draft (draft.puts ++ put ∷ []) draft.oom draft.lost sound)
+    subst IsSound same (sound_beside draft (draft.puts ++ put ∷ []) draft.answers sound)
 
--- an `oom` line that may stand
-sound_oom : (draft next : Draft) (question : ℕ) → IsSound draft → with_oom draft question ≡ Some next → IsSound next
-unfolding with_oom
-sound_oom draft next question sound e =
-    let chosen = let_through (not (is_listed draft.oom question)) (record draft { oom = draft.oom ++ question ∷ [] }) next e in
-    subst IsSound chosen.1 (sound_beside draft draft.puts (draft.oom ++ question ∷ []) draft.lost sound)
+-- a line that traces have as well, by the answers that it gives
+sound_answers : (draft next : Draft) (answers : Option AnswersDraft) → IsSound draft → with_answers draft answers ≡ Some next → IsSound next
+sound_answers draft next None sound e = absurd (cc)
+sound_answers draft next (Some answers) sound e =
+    let same : record draft { answers = answers } ≡ next = cc in
+    subst IsSound same (sound_beside draft draft.puts answers sound)
 
--- a `lost` line that may stand
-sound_lost : (draft next : Draft) (call : ℕ) → IsSound draft → with_lost draft call ≡ Some next → IsSound next
-unfolding with_lost
-sound_lost draft next call sound e =
-    let chosen = let_through (is_none draft.lost) (record draft { lost = Some call }) next e in
-    subst IsSound chosen.1 (sound_beside draft draft.puts draft.oom (Some call) sound)
+sound_common : (draft next : Draft) (line : CommonLine) → IsSound draft → with_common draft line ≡ Some next → IsSound next
+unfolding with_common
+sound_common draft next (Ring n) sound e = sound_ring draft next n sound e
+sound_common draft next (Oom question) sound e = sound_answers draft next (with_oom draft.answers question) sound e
+sound_common draft next (Lost call) sound e = sound_answers draft next (with_lost draft.answers call) sound e
 
 -- any line that may stand
 sound_after : (draft next : Draft) (line : Line) → IsSound draft → draft_after draft line ≡ Some next → IsSound next
 unfolding draft_after
 sound_after draft next PassedOver sound e = let same : draft ≡ next = cc in subst IsSound same sound
-sound_after draft next (Ring n) sound e = sound_ring draft next n sound e
 sound_after draft next (OfRegion r) sound e = sound_region draft next r sound e
 sound_after draft next (Opening p) sound e = sound_opening draft next p sound e
 sound_after draft next (At t) sound e = sound_timed draft next t sound e
 sound_after draft next (Put put) sound e = sound_put draft next put sound e
-sound_after draft next (Oom question) sound e = sound_oom draft next question sound e
-sound_after draft next (Lost call) sound e = sound_lost draft next call sound e
+sound_after draft next (Common line) sound e = sound_common draft next line sound e
 
 -- any text of a line that may stand
 pub sound_with : (text : List ℕ) (draft next : Draft) → IsSound draft → draft_with text draft ≡ Some next → IsSound next

@@ -4,7 +4,7 @@ use Rattle.std.proofs.lemmas.Grind.{common_steps}
 use Rattle.std.proofs.lemmas.List.Elements.{All-head, All-tail}
 use Rattle.std.proofs.lemmas.List.Sums.{fails_before_first, split_at_first, passes_at_first}
 use Rattle.std.specs.List.{position_or_len, All, onto_first}
-use Rattle.ring_script.specs.Fields.{◌>>=◌, cut_at}
+use Rattle.gl_plain.specs.Fields.{◌>>=◌, cut_at}
 use Rattle.ring_script.specs.Script.{lines_of}
 
 -- the byte is a line feed

@@ -1,6 +1,4 @@
 -- The definitions that contracts cite.
-pub mod Distinct
-pub mod Fields
 pub mod Lines
 pub mod Limits
 pub mod Rules

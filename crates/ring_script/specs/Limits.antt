@@ -1,6 +1,7 @@
 -- How large the regions of a script may be.
 use Rattle.std.specs.Prelude.{ℕ, ◌+◌, ◌*◌, ◌≤◌, List}
 use Rattle.std.specs.List.{AllByRecursion, sum_by}
+use Rattle.gl_base.specs.declared.limits.TheConstants.{DATA_LIMIT, TOTAL_LIMIT}
 use Rattle.gl_plain.specs.declared.memory.Region.{Region}
 use Rattle.cb_shm.specs.declared.script.Script.{Script}
 
@@ -14,9 +15,9 @@ total_bytes s = 4 * s.entries + listed_bytes s.regions
 
 -- a region has at most 67,108,864 bytes
 abbrev pub IsSmall : Region → Type 0
-IsSmall r = r.size ≤ 67108864
+IsSmall r = r.size ≤ DATA_LIMIT
 
 -- each region has at most 67,108,864 bytes, and all together with the ring have at most 268,435,456
 pub record IsWithinLimits (s : Script) : Type 0 where
   pub each : AllByRecursion IsSmall s.regions
-  pub total : total_bytes s ≤ 268435456
+  pub total : total_bytes s ≤ TOTAL_LIMIT

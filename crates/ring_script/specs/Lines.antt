@@ -1,16 +1,11 @@
 -- The lines of a script, each kind by itself.
-use Rattle.std.specs.Prelude.{ℕ, Bool, List, [], ◌∷◌, ◌==◌, if◌then◌else◌, codes, Option, Some, None, nat_eq}
-use Rattle.std.specs.Cmp.Lexicographic.{pointwise}
+use Rattle.std.specs.Prelude.{ℕ, List, [], ◌∷◌, ◌==◌, if◌then◌else◌, codes, Option, Some, None}
 use Rattle.gl_plain.specs.declared.memory.Patch.{Patch}
-use Rattle.ring_script.specs.Fields.{◌>>=◌, space, number_sign, cut_at, number_in, bytes_in}
+use Rattle.gl_plain.specs.declared.common_lines.CommonLine.{CommonLine}
+use Rattle.gl_plain.specs.CommonLines.{is_word, common_by_word}
+use Rattle.gl_plain.specs.Fields.{◌>>=◌, space, number_sign, cut_at, number_in, bytes_in}
 use Rattle.ring_script.specs.declared.line.Line.{Line}
-use Rattle.ring_script.specs.declared.line.Line.TheVariants.{PassedOver, Ring, Region as OfRegion, Opening, At, Put, Oom, Lost}
-
--- `ring N`, after its word
-unfoldable pub ring_in : List ℕ → Option Line
-ring_in text = do
-  entries ← number_in text
-  Some (Ring entries)
+use Rattle.ring_script.specs.declared.line.Line.TheVariants.{PassedOver, Region as OfRegion, Opening, At, Put, Common}
 
 -- `region ID SIZE`, after its word
 unfoldable pub region_in : List ℕ → Option Line
@@ -50,38 +45,19 @@ put_in text = do
   put ← number_in text
   Some (Put put)
 
--- `oom N`, after its word
-unfoldable pub oom_in : List ℕ → Option Line
-oom_in text = do
-  question ← number_in text
-  Some (Oom question)
-
--- `lost N`, after its word
-unfoldable pub lost_in : List ℕ → Option Line
-lost_in text = do
-  call ← number_in text
-  Some (Lost call)
-
--- the bytes are those of this word
-abbrev pub is_word : List ℕ → List ℕ → Bool
-is_word word bytes = pointwise nat_eq bytes word
-
--- a line on the driver's answers by its word, and by what follows the space behind the word
-unfoldable pub answer_by_word : List ℕ → List ℕ → Option Line
-answer_by_word word rest =
-    if is_word (codes "oom") word then oom_in rest
-    else if is_word (codes "lost") word then lost_in rest
-    else None
+-- a line that traces have as well
+abbrev pub common_in : Option CommonLine → Option Line
+common_in None = None
+common_in (Some line) = Some (Common line)
 
 -- a line by its word, and by what follows the space behind the word
 unfoldable pub line_by_word : List ℕ → List ℕ → Option Line
 line_by_word word rest =
-    if is_word (codes "ring") word then ring_in rest
-    else if is_word (codes "region") word then region_in rest
+    if is_word (codes "region") word then region_in rest
     else if is_word (codes "bytes") word then opening_in rest
     else if is_word (codes "at") word then at_in rest
     else if is_word (codes "put") word then put_in rest
-    else answer_by_word word rest
+    else common_in (common_by_word word rest)
 
 -- a line that is neither empty nor a comment
 unfoldable pub words_in : List ℕ → Option Line

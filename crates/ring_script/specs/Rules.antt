@@ -1,5 +1,5 @@
 -- Where each kind of line may stand, and what the lines so far say.
-use Rattle.std.specs.Prelude.{ℕ, Bool, ◌+◌, [], ◌∷◌, ◌++◌, length, ◌==◌, ◌&&◌, not, nat_le, if◌then◌else◌, Option, Some, None, is_none, unwrap_or}
+use Rattle.std.specs.Prelude.{ℕ, Bool, ◌+◌, [], ◌∷◌, ◌++◌, length, ◌==◌, ◌&&◌, nat_le, if◌then◌else◌, Option, Some, None, is_none, unwrap_or}
 use Rattle.gl_plain.specs.Regions.{is_inside}
 use Rattle.gl_plain.specs.declared.memory.Patch.{Patch}
 use Rattle.gl_plain.specs.declared.memory.Region.{Region}
@@ -7,29 +7,34 @@ use Rattle.gl_plain.specs.declared.memory.Timed.{Timed}
 use Rattle.cb_shm.specs.Hostile.{listed_size, script_sizes}
 use Rattle.cb_shm.specs.Whole.{IsWholeScript}
 use Rattle.cb_shm.specs.declared.script.Script.{Script}
-use Rattle.ring_script.specs.Distinct.{is_listed}
+use Rattle.gl_base.specs.declared.limits.TheConstants.{DATA_LIMIT, DEFAULT_SURFACE, DEFAULT_ENTRIES, LEAST_ENTRIES, MOST_ENTRIES, LAST_REGION, TOTAL_LIMIT}
+use Rattle.gl_plain.specs.declared.common_lines.CommonLine.{CommonLine}
+use Rattle.gl_plain.specs.declared.common_lines.CommonLine.TheVariants.{Ring, Oom, Lost}
+use Rattle.gl_plain.specs.declared.common_lines.AnswersDraft.{AnswersDraft}
+use Rattle.gl_plain.specs.CommonLines.{no_draft, answers_in, with_oom, with_lost}
 use Rattle.ring_script.specs.Limits.{total_bytes, IsWithinLimits}
 use Rattle.ring_script.specs.declared.draft.Draft.{Draft}
 use Rattle.ring_script.specs.declared.line.Line.{Line}
-use Rattle.ring_script.specs.declared.line.Line.TheVariants.{PassedOver, Ring, Region as OfRegion, Opening, At, Put, Oom, Lost}
+use Rattle.ring_script.specs.declared.line.Line.TheVariants.{PassedOver, Region as OfRegion, Opening, At, Put, Common}
 
 -- what is said before the first line
 abbrev pub empty_draft : Draft
-empty_draft = record { ring = None; regions = []; opening = []; timed = []; puts = []; oom = []; lost = None }
+empty_draft = record { ring = None; regions = []; opening = []; timed = []; puts = []; answers = no_draft }
 
 -- without a `ring` line the ring has 4,096 entries
 abbrev pub entries_of : Draft → ℕ
-entries_of draft = unwrap_or draft.ring 4096
+entries_of draft = unwrap_or draft.ring DEFAULT_ENTRIES
 
 -- the script that the lines say
 abbrev pub script_of : Draft → Script
 script_of draft = record {
+  surface = DEFAULT_SURFACE;
   entries = entries_of draft;
   regions = draft.regions;
   opening = draft.opening;
   timed = draft.timed;
   puts = draft.puts;
-  answers = record { oom = draft.oom; lost = draft.lost };
+  answers = answers_in draft.answers;
 }
 
 -- no line has said anything so far, but perhaps of the driver's answers
@@ -38,12 +43,12 @@ is_first draft = is_none draft.ring && (length draft.regions == 0) && (length dr
 
 -- `ring` stands once, before any other line that says something but `oom` and `lost`, with 2 to 1,048,576 entries
 unfoldable pub with_ring : Draft → ℕ → Option Draft
-with_ring draft n = if is_first draft && nat_le 2 n && nat_le n 1048576 then Some (record draft { ring = Some n }) else None
+with_ring draft n = if is_first draft && nat_le LEAST_ENTRIES n && nat_le n MOST_ENTRIES then Some (record draft { ring = Some n }) else None
 
 -- `region` gives a number from 1 to 255 once, and at most 67,108,864 bytes; all regions have at most 268,435,456 with the ring
 unfoldable pub with_region : Draft → Region → Option Draft
 with_region draft r =
-    if nat_le 1 r.id && nat_le r.id 255 && is_none (listed_size draft.regions r.id) && nat_le r.size 67108864 && nat_le (total_bytes (script_of draft) + r.size) 268435456
+    if nat_le 1 r.id && nat_le r.id LAST_REGION && is_none (listed_size draft.regions r.id) && nat_le r.size DATA_LIMIT && nat_le (total_bytes (script_of draft) + r.size) TOTAL_LIMIT
     then Some (record draft { regions = draft.regions ++ r ∷ [] }) else None
 
 -- `bytes` lies in a region that stands before it
@@ -62,24 +67,25 @@ with_timed draft t =
 abbrev pub with_put : Draft → ℕ → Draft
 with_put draft put = record draft { puts = draft.puts ++ put ∷ [] }
 
--- `oom` stands anywhere, and names a question once
-unfoldable pub with_oom : Draft → ℕ → Option Draft
-with_oom draft question = if not (is_listed draft.oom question) then Some (record draft { oom = draft.oom ++ question ∷ [] }) else None
+-- the answers that the lines so far say, with those of a line
+abbrev pub with_answers : Draft → Option AnswersDraft → Option Draft
+with_answers draft None = None
+with_answers draft (Some answers) = Some (record draft { answers = answers })
 
--- `lost` stands anywhere, once
-unfoldable pub with_lost : Draft → ℕ → Option Draft
-with_lost draft call = if is_none draft.lost then Some (record draft { lost = Some call }) else None
+-- a line that traces have as well: `oom` and `lost` stand anywhere, `oom` with each question once, `lost` once
+unfoldable pub with_common : Draft → CommonLine → Option Draft
+with_common draft (Ring n) = with_ring draft n
+with_common draft (Oom question) = with_answers draft (with_oom draft.answers question)
+with_common draft (Lost call) = with_answers draft (with_lost draft.answers call)
 
 -- what the lines before say together with a line that may stand after them
 unfoldable pub draft_after : Draft → Line → Option Draft
 draft_after draft PassedOver = Some draft
-draft_after draft (Ring n) = with_ring draft n
 draft_after draft (OfRegion r) = with_region draft r
 draft_after draft (Opening p) = with_opening draft p
 draft_after draft (At t) = with_timed draft t
 draft_after draft (Put put) = Some (with_put draft put)
-draft_after draft (Oom question) = with_oom draft question
-draft_after draft (Lost call) = with_lost draft call
+draft_after draft (Common line) = with_common draft line
 
 -- the lines so far say a whole script within the limits
 pub record IsSound (draft : Draft) : Type 0 where

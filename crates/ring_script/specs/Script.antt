@@ -2,7 +2,7 @@
 use Rattle.std.specs.Prelude.{◌≡◌, ℕ, ◌+◌, ◌-◌, ◌≤◌, List, [], ◌∷◌, length, take, ◌==◌, if◌then◌else◌, Option, Some, None, Result, Ok, Err, IsOk}
 use Rattle.std.specs.List.{onto_first}
 use Rattle.cb_shm.specs.declared.script.Script.{Script}
-use Rattle.ring_script.specs.Fields.{◌>>=◌, line_feed}
+use Rattle.gl_plain.specs.Fields.{◌>>=◌, line_feed}
 use Rattle.ring_script.specs.Lines.{line_in}
 use Rattle.ring_script.specs.Rules.{draft_after, empty_draft, script_of}
 use Rattle.ring_script.specs.declared.draft.Draft.{Draft}

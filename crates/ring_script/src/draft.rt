@@ -1,30 +1,21 @@
 //! Where each kind of line may stand, and what the lines so far say.
 ghost use Rattle.std.specs.Prelude.{◌≡◌, ◌≤◌, if◌then◌else◌, IfOk};
 ghost use Rattle.gl_plain.specs.Regions.{is_inside};
+ghost use Rattle.gl_base.specs.declared.limits.TheConstants.{TOTAL_LIMIT};
 ghost use Rattle.cb_shm.specs.Hostile.{listed_size, script_sizes};
 ghost use Rattle.ring_script.specs.Limits.{listed_bytes, total_bytes, IsWithinLimits};
-ghost use Rattle.ring_script.specs.Rules.{draft_after, empty_draft, entries_of, is_first, script_of, with_lost, with_oom, with_opening, with_put, with_region, with_ring, with_timed, IsSound};
+ghost use Rattle.ring_script.specs.Rules.{draft_after, empty_draft, entries_of, is_first, script_of, with_common, with_opening, with_put, with_region, with_ring, with_timed, IsSound};
 
-use crate::distinct::DistinctNumbers;
 use crate::line::Line;
 use cb_shm::Script;
-use gl_plain::{Answers, Patch, PatchList, Region, RegionList, Timed, TimedList, Words};
+use gl_base::limits::{
+    DATA_LIMIT, DEFAULT_ENTRIES, DEFAULT_SURFACE, LAST_REGION, LEAST_ENTRIES, MOST_ENTRIES,
+    TOTAL_LIMIT,
+};
+use gl_plain::{
+    AnswersDraft, CommonLine, Patch, PatchList, Region, RegionList, Timed, TimedList, Words,
+};
 use std::alloc::{AllocError, Global};
-
-/// How many entries the ring has without a `ring` line.
-const DEFAULT_ENTRIES: u32 = 4096;
-
-/// How many entries the ring has at most.
-const MAX_ENTRIES: u32 = 1_048_576;
-
-/// The greatest number of a region. The ring is region 0.
-const MAX_REGION: u32 = 255;
-
-/// How many bytes a region has at most.
-const MAX_REGION_BYTES: u32 = 67_108_864;
-
-/// How many bytes the ring and the regions have together at most.
-const MAX_TOTAL_BYTES: u64 = 268_435_456;
 
 /// What the lines so far have said.
 #[derive(Drop)]
@@ -34,8 +25,7 @@ pub struct Draft {
     pub opening: PatchList,
     pub timed: TimedList,
     pub puts: Words,
-    pub oom: DistinctNumbers,
-    pub lost: Option<u32>,
+    pub answers: AnswersDraft,
 }
 
 /// The size of the region of this number.
@@ -52,7 +42,7 @@ fn listed_size(regions: &[Region], id: u32) -> Option<u32>
 
 /// The sizes of the regions together.
 fn listed_bytes(regions: &[Region]) -> u64
-    requires { listed_bytes regions.now ≤ 268435456 }
+    requires { listed_bytes regions.now ≤ TOTAL_LIMIT }
     ensures { result ≡ listed_bytes regions.now }
 {
     let mut bytes = 0u64;
@@ -73,8 +63,7 @@ impl Draft {
             opening: PatchList::new(alloc),
             timed: TimedList::new(alloc),
             puts: Words::new(alloc),
-            oom: DistinctNumbers::new(alloc),
-            lost: None,
+            answers: AnswersDraft::new(alloc),
         }
     }
 
@@ -127,7 +116,7 @@ impl Draft {
     fn take_ring(&mut self, entries: u32) -> bool
         ensures { with_ring self.old entries ≡ (if result then Some self.new else None) }
     {
-        let is_taken = self.is_first() && entries >= 2 && entries <= MAX_ENTRIES;
+        let is_taken = self.is_first() && entries >= LEAST_ENTRIES && entries <= MOST_ENTRIES;
         if is_taken {
             self.ring = Some(entries);
         }
@@ -139,10 +128,10 @@ impl Draft {
         requires { IsSound self.old }
         ensures { IfOk result (λ taken. with_region self.old region ≡ (if taken then Some self.new else None)) }
     {
-        let has_number = region.id >= 1 && region.id <= MAX_REGION;
+        let has_number = region.id >= 1 && region.id <= LAST_REGION;
         let is_new = listed_size(self.regions.as_slice(), region.id).is_none();
         let total = self.total_bytes() + u64::from(region.size);
-        let has_room = region.size <= MAX_REGION_BYTES && total <= MAX_TOTAL_BYTES;
+        let has_room = region.size <= DATA_LIMIT && total <= TOTAL_LIMIT;
         if has_number && is_new && has_room {
             self.regions.push(region)?;
             Ok(true)
@@ -182,22 +171,15 @@ impl Draft {
         Ok(true)
     }
 
-    #[tactic(auto, unfolding(crate::specs::Rules::with_oom))]
-    fn take_oom(&mut self, question: u32) -> Result<bool, AllocError>
-        ensures { IfOk result (λ taken. with_oom self.old question ≡ (if taken then Some self.new else None)) }
+    #[tactic(auto, unfolding(crate::specs::Rules::with_common, crate::specs::Rules::with_ring))]
+    fn take_common(&mut self, line: CommonLine) -> Result<bool, AllocError>
+        ensures { IfOk result (λ taken. with_common self.old line ≡ (if taken then Some self.new else None)) }
     {
-        self.oom.add(question)
-    }
-
-    #[tactic(auto, unfolding(crate::specs::Rules::with_lost))]
-    fn take_lost(&mut self, call: u32) -> bool
-        ensures { with_lost self.old call ≡ (if result then Some self.new else None) }
-    {
-        let is_taken = self.lost.is_none();
-        if is_taken {
-            self.lost = Some(call);
+        match line {
+            CommonLine::Ring(entries) => Ok(self.take_ring(entries)),
+            CommonLine::Oom(question) => self.answers.take_oom(question),
+            CommonLine::Lost(call) => Ok(self.answers.take_lost(call)),
         }
-        is_taken
     }
 
     /// Takes a line, where it may stand after those before it. The answer is whether it may.
@@ -208,13 +190,11 @@ impl Draft {
     {
         match line {
             Line::PassedOver => Ok(true),
-            Line::Ring(entries) => Ok(self.take_ring(entries)),
             Line::Region(region) => self.take_region(region),
             Line::Opening(patch) => self.take_opening(patch),
             Line::At(timed) => self.take_timed(timed),
             Line::Put(put) => self.take_put(put),
-            Line::Oom(question) => self.take_oom(question),
-            Line::Lost(call) => Ok(self.take_lost(call)),
+            Line::Common(line) => self.take_common(line),
         }
     }
 
@@ -229,17 +209,16 @@ impl Draft {
             opening,
             timed,
             puts,
-            oom,
-            lost,
+            answers,
         } = self;
-        let oom = oom.into_words();
         Script {
+            surface: DEFAULT_SURFACE,
             entries,
             regions,
             opening,
             timed,
             puts,
-            answers: Answers { oom, lost },
+            answers: answers.into_answers(),
         }
     }
 }

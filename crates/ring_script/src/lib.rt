@@ -1,9 +1,7 @@
 //! The text of a script: its grammar, and the script that a text stands for.
 #![tactic(auto)]
 
-mod distinct;
 mod draft;
-mod field;
 mod line;
 mod script;
 #[cfg(test)]

@@ -1,9 +1,10 @@
 //! The lines of a script, each kind by itself.
 ghost use Rattle.std.specs.Prelude.{◌≡◌, IfOk};
-ghost use Rattle.ring_script.specs.Lines.{answer_by_word, at_in, line_by_word, line_in, lost_in, oom_in, opening_in, patch_in, put_in, region_in, ring_in, words_in};
+ghost use Rattle.ring_script.specs.Lines.{at_in, common_in, line_by_word, line_in, opening_in, patch_in, put_in, region_in, words_in};
+ghost use Rattle.gl_plain.specs.CommonLines.{common_by_word};
 
-use crate::field::{bytes, cut, number};
-use gl_plain::{Patch, Region, Timed};
+use gl_plain::fields::{bytes, cut, number};
+use gl_plain::{CommonLine, Patch, Region, Timed, common_line};
 use std::alloc::{AllocError, Global};
 
 /// A line of the grammar.
@@ -11,8 +12,6 @@ use std::alloc::{AllocError, Global};
 pub enum Line {
     /// An empty line or a comment.
     PassedOver,
-    /// How many entries the ring has.
-    Ring(u32),
     /// A region besides the ring.
     Region(Region),
     /// Bytes that stand in a region at first.
@@ -21,18 +20,8 @@ pub enum Line {
     At(Timed),
     /// A value of put that the client publishes.
     Put(u32),
-    /// A question whether there is room, counted from 0, that is answered with no.
-    Oom(u32),
-    /// The driver call, counted from 0, that is answered with the driver being lost.
-    Lost(u32),
-}
-
-#[tactic(auto, unfolding(crate::specs::Lines::ring_in))]
-fn ring_line(text: &[u8]) -> Option<Line>
-    ensures { result ≡ ring_in text.now }
-{
-    let entries = number(text)?;
-    Some(Line::Ring(entries))
+    /// A line that traces have as well.
+    Common(CommonLine),
 }
 
 #[tactic(auto, unfolding(crate::specs::Lines::region_in))]
@@ -111,31 +100,13 @@ fn put_line(text: &[u8]) -> Option<Line>
     Some(Line::Put(put))
 }
 
-#[tactic(auto, unfolding(crate::specs::Lines::oom_in))]
-fn oom_line(text: &[u8]) -> Option<Line>
-    ensures { result ≡ oom_in text.now }
+/// A line that traces have as well.
+fn shared_line(word: &[u8], rest: &[u8]) -> Option<Line>
+    ensures { result ≡ common_in (common_by_word word.now rest.now) }
 {
-    let question = number(text)?;
-    Some(Line::Oom(question))
-}
-
-#[tactic(auto, unfolding(crate::specs::Lines::lost_in))]
-fn lost_line(text: &[u8]) -> Option<Line>
-    ensures { result ≡ lost_in text.now }
-{
-    let call = number(text)?;
-    Some(Line::Lost(call))
-}
-
-/// A line on the driver's answers.
-#[tactic(auto, unfolding(crate::specs::Lines::answer_by_word))]
-fn answer_line(word: &[u8], rest: &[u8]) -> Option<Line>
-    ensures { result ≡ answer_by_word word.now rest.now }
-{
-    match word {
-        b"oom" => oom_line(rest),
-        b"lost" => lost_line(rest),
-        _ => None,
+    match common_line(word, rest) {
+        Some(line) => Some(Line::Common(line)),
+        None => None,
     }
 }
 
@@ -144,12 +115,11 @@ fn line_with_word(alloc: Global, word: &[u8], rest: &[u8]) -> Result<Option<Line
     ensures { IfOk result (λ line. line ≡ line_by_word word.now rest.now) }
 {
     match word {
-        b"ring" => Ok(ring_line(rest)),
         b"region" => Ok(region_line(rest)),
         b"bytes" => opening_line(alloc, rest),
         b"at" => at_line(alloc, rest),
         b"put" => Ok(put_line(rest)),
-        _ => Ok(answer_line(word, rest)),
+        _ => Ok(shared_line(word, rest)),
     }
 }
 

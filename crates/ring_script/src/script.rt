@@ -7,17 +7,20 @@ ghost use Rattle.ring_script.specs.Script.{draft_with, lines_of, script_in, IsFi
 ghost use Rattle.ring_script.specs.declared.script.ReadRefusal.TheVariants.{NoMemory};
 
 use crate::draft::Draft;
-use crate::field::cut;
 use crate::line::read_line;
 use cb_shm::Script;
+use gl_plain::fields::cut;
 use std::alloc::{AllocError, Global};
+use thiserror::Error;
 
 /// Why a text was not read.
-#[derive(Clone, Copy, Debug, PartialEq, Eq)]
+#[derive(Clone, Copy, Debug, PartialEq, Eq, Error)]
 pub enum ReadRefusal {
     /// The number, from 1, of the first line that is outside the grammar.
+    #[error("line {0} is outside the grammar")]
     BadLine(u32),
     /// There was no memory for the script.
+    #[error("there was no memory")]
     NoMemory,
 }
 

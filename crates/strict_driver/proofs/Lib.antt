@@ -2,6 +2,8 @@
 pub mod Entries
 pub mod Tabulated
 pub mod Placing
+pub mod Kept
 pub mod NamesGiven
-pub mod OneMore
+pub mod Answered
+pub mod Entering
 pub mod Among

@@ -4,8 +4,8 @@ use Rattle.std.specs.Ordering.{nat_cmp, eq_by_cmp}
 use Rattle.std.specs.Cmp.{nat_cmp_total}
 use Rattle.std.specs.FinSet as set
 use Rattle.gl_base.proofs.Found.{test}
-use Rattle.gl_plain.specs.Allowed.{IsFresh}
-use Rattle.strict_driver.specs.TableState.{up_to}
+use Rattle.gl_plain.specs.subjects.Names.{IsFresh}
+use Rattle.strict_driver.specs.Given.{up_to}
 
 above : (n q : ℕ) → n < q → set.contains (up_to n) q ≡ false
 above zero q h = set.contains-empty nat_cmp q
@@ -15,8 +15,8 @@ above (suc n) q h =
     set.contains-insert nat_cmp_total (up_to n) (suc n) q ∙ ap (λ b. b || set.contains (up_to n) q) apart ∙ above n q below
 
 -- the next name was never given
-pub next_is_fresh : (n : ℕ) → IsFresh (up_to n) (n + 1)
-next_is_fresh n = record { positive = λ is. absurd (omega arith); unused = above n (n + 1) (omega arith) }
+pub next_is_fresh : (n next : ℕ) → next ≡ n + 1 → IsFresh (up_to n) next
+next_is_fresh n next is = record { positive = λ zero. absurd (omega arith); unused = above n next (omega arith) }
 
 pub up_to_next : (n : ℕ) → up_to (n + 1) ≡ set.insert (up_to n) (n + 1)
 up_to_next n = rw add-one refl

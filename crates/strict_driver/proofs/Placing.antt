@@ -1,18 +1,19 @@
 -- How the names and the objects of a name space change with what a name stands for.
-use Rattle.std.proofs.Common.{◌≡◌, ◌≢◌, ◌<◌, ◌+◌, ℕ, Bool, true, false, List, length, get_or, refl, sym, ◌∙◌, ap, Option, None, Some, is_some, inl, inr, arith, get_or-set_same, get_or-set_other}
+use Rattle.std.proofs.Common.{◌≡◌, ◌≢◌, ◌<◌, ◌+◌, ℕ, Bool, true, false, List, length, get_or, refl, sym, ◌∙◌, ap, Option, None, Some, is_some, IfSome, IfNone, OnSome, cond, ◌||◌, inl, inr, arith, get_or-set_same, get_or-set_other}
 use Rattle.std.proofs.lemmas.Bool.{cases_lt}
 use Rattle.std.proofs.lemmas.List.{get_or_past}
-use Rattle.std.specs.Ordering.{nat_cmp}
+use Rattle.std.specs.Ordering.{nat_cmp, eq_by_cmp}
 use Rattle.std.specs.Cmp.{nat_cmp_total}
 use Rattle.std.specs.FinMap as map
+use Rattle.std.specs.FinSet as set
 use Rattle.slab.specs.Slab as slab
 use Rattle.gl_base.proofs.Maps.{remove-absent}
 use Rattle.gl_base.proofs.Found.{test, get-insert_here, get-insert_other, found-insert}
 use Rattle.gl_plain.specs.declared.objects.Name.{Name}
-use Rattle.gl_plain.specs.Effect.{new_name}
+use Rattle.gl_plain.specs.subjects.Names.{new_name}
 use Rattle.strict_driver.specs.declared.name_space.Standing.{Standing}
 use Rattle.strict_driver.specs.declared.name_space.Standing.TheVariants.{Unmade, Made, Gone}
-use Rattle.strict_driver.specs.Standings.{Space, name_in, place_in, object_in, name_at, object_at, names_of, objects_of, IsPlaced}
+use Rattle.strict_driver.specs.Standings.{Space, name_in, place_in, object_in, name_at, object_at, names_of, objects_of, given_of, space_of, IsPlaced}
 use Rattle.strict_driver.proofs.Tabulated.{get_tabulated, tabulated-same, tabulated-insert, tabulated-remove}
 
 abbrev Standings : Type 0
@@ -105,7 +106,7 @@ module _ {T : Type 0} where
     | inr p ↦ ap (object_in s) (get-insert_other st k Unmade q p.0)
   ])
 
-module _ {T : Type 0} (st : Standings) (s s2 : slab.Slab T) (last : ℕ) (w : IsPlaced st s last) where
+module _ {T : Type 0} (st : Standings) (s s2 : slab.Slab T) (w : IsPlaced st s) where
   -- a place of another name is not this one
   vacant_is_other : (place : ℕ) → slab.get s place ≡ None → (q other : ℕ) → map.get st q ≡ Some (Made other) → other ≢ place
   vacant_is_other place vacant q other at is =
@@ -121,12 +122,9 @@ module _ {T : Type 0} (st : Standings) (s s2 : slab.Slab T) (last : ℕ) (w : Is
   pub keeps-change : (k place : ℕ) (slot : Option T) → map.get st k ≡ Some (Made place) → slab.Updates s s2 place slot → KeepsOthers st s s2 k
   keeps-change k place slot there u q other apart at = u.others other (λ is. apart (w.apart q k place (at ∙ ap (λ p. Some (Made p)) is) there))
 
-  within : (k : ℕ) (standing : Standing) → map.get st k ≡ Some standing → (q : ℕ) → last < q → q ≢ k
-  within k standing there q after is = let none : map.get st k ≡ None = ap (map.get st) (sym is) ∙ w.none_after q after in cc
-
   -- a name in the table stands for an object at a place of its own
-  pub placed-made : (k place : ℕ) (standing : Standing) → map.get st k ≡ Some standing → slab.get s place ≡ None → KeepsOthers st s s2 k → is_some (slab.get s2 place) ≡ true → IsPlaced (map.insert st k (Made place)) s2 last
-  placed-made k place standing there vacant kept full = record {
+  pub placed-made : (k place : ℕ) → slab.get s place ≡ None → KeepsOthers st s s2 k → is_some (slab.get s2 place) ≡ true → IsPlaced (map.insert st k (Made place)) s2
+  placed-made k place vacant kept full = record {
     full = λ q p at. elim (found-insert st k (Made place) q (Made p) at) [
       | inl f ↦ let is : place ≡ p = cc in ap (λ n. is_some (slab.get s2 n)) (sym is) ∙ full
       | inr f ↦ ap is_some (kept q p f.0 f.1) ∙ w.full q p f.1
@@ -141,63 +139,108 @@ module _ {T : Type 0} (st : Standings) (s s2 : slab.Slab T) (last : ℕ) (w : Is
         | inr g ↦ w.apart q r p f.1 g.1
       ]
     ];
-    none_after = λ q after. get-insert_other st k (Made place) q (within k standing there q after) ∙ w.none_after q after;
   }
 
   -- a name in the table stands for nothing any more
-  pub placed-gone : (k : ℕ) (standing : Standing) → map.get st k ≡ Some standing → KeepsOthers st s s2 k → IsPlaced (map.insert st k Gone) s2 last
-  placed-gone k standing there kept = record {
+  pub placed-gone : (k : ℕ) → KeepsOthers st s s2 k → IsPlaced (map.insert st k Gone) s2
+  placed-gone k kept = record {
     full = λ q p at. elim (found-insert st k Gone q (Made p) at) [ inl f ↦ cc | inr f ↦ ap is_some (kept q p f.0 f.1) ∙ w.full q p f.1 ];
     apart = λ q r p at too. elim (found-insert st k Gone q (Made p) at) [
       | inl f ↦ cc
       | inr f ↦ elim (found-insert st k Gone r (Made p) too) [ inl g ↦ cc | inr g ↦ w.apart q r p f.1 g.1 ]
     ];
-    none_after = λ q after. get-insert_other st k Gone q (within k standing there q after) ∙ w.none_after q after;
   }
 
   -- the objects of all names are somewhere, where only that of one changed
-  pub placed-written : (k place : ℕ) → map.get st k ≡ Some (Made place) → KeepsOthers st s s2 k → is_some (slab.get s2 place) ≡ true → IsPlaced st s2 last
+  pub placed-written : (k place : ℕ) → map.get st k ≡ Some (Made place) → KeepsOthers st s s2 k → is_some (slab.get s2 place) ≡ true → IsPlaced st s2
   placed-written k place there kept full = record {
     full = λ q p at. elim (test q k) [
       | inl f ↦ let here : map.get st k ≡ Some (Made p) = ap (map.get st) (sym f.0) ∙ at in let is : place ≡ p = cc in ap (λ n. is_some (slab.get s2 n)) (sym is) ∙ full
       | inr f ↦ ap is_some (kept q p f.0 at) ∙ w.full q p at
     ];
     apart = w.apart;
-    none_after = w.none_after;
   }
 
-module _ {T : Type 0} (st : Standings) (s : slab.Slab T) (last : ℕ) (w : IsPlaced st s last) where
-  pub placed-given : (k : ℕ) → k ≡ last + 1 → IsPlaced (map.insert st k Unmade) s k
-  placed-given k next = record {
+module _ {T : Type 0} (st : Standings) (s : slab.Slab T) (w : IsPlaced st s) where
+  pub placed-given : (k : ℕ) → IsPlaced (map.insert st k Unmade) s
+  placed-given k = record {
     full = λ q p at. elim (found-insert st k Unmade q (Made p) at) [ inl f ↦ cc | inr f ↦ w.full q p f.1 ];
     apart = λ q r p at too. elim (found-insert st k Unmade q (Made p) at) [
       | inl f ↦ cc
       | inr f ↦ elim (found-insert st k Unmade r (Made p) too) [ inl g ↦ cc | inr g ↦ w.apart q r p f.1 g.1 ]
     ];
-    none_after = λ q after. get-insert_other st k Unmade q (λ is. absurd (omega arith)) ∙ w.none_after q (omega arith);
   }
 
--- what is left of a name space without a name
-pub space-gone : {T : Type 0} (st : Standings) (s s2 : slab.Slab T) (last k : ℕ) → KeepsOthers st s s2 k
-    → (let space : Space T = record { names = names_of (map.insert st k Gone); objects = objects_of (map.insert st k Gone) s2; last = last } in space)
-    ≡ record { names = map.remove (names_of st) k; objects = map.remove (objects_of st s) k; last = last }
-space-gone st s s2 last k kept = λ i. record {
-  names = names-gone st k i;
-  objects = objects-gone st (map.insert st k Gone) s s2 k kept (λ q apart. get-insert_other st k Gone q apart) (ap (object_in s2) (get-insert_here st k Gone)) i;
-  last = last;
-}
+some_here : {X : Type 0} (b : Bool) (x : X) (o : Option X) → is_some (cond b (Some x) o) ≡ (b || is_some o)
+some_here true x o = refl
+some_here false x o = refl
 
--- what is no object has none
-pub no_object : {T : Type 0} (s : slab.Slab T) (standing : Standing) → ((place : ℕ) → standing ≡ Made place → ⊥) → object_in s (Some standing) ≡ None
-no_object s Unmade h = refl
-no_object s Gone h = refl
-no_object s (Made place) h = absurd (h place refl)
+-- the names that were ever given are those that stand for something
+given-has : (st : Standings) (q : ℕ) → set.contains (given_of st) q ≡ map.contains_key st q
+given-has st q = set.contains-from_list nat_cmp_total (map.keys st) q ∙ sym (map.contains_key-keys st q)
 
-pub placed-empty : {T : Type 0} (s : slab.Slab T) → IsPlaced map.empty s 0
+none_of : {X : Type 0} (o : Option X) → is_some o ≡ false → o ≡ None
+none_of None h = refl
+none_of (Some x) h = cc
+
+pub not-given : (st : Standings) (k : ℕ) → set.contains (given_of st) k ≡ false → map.get st k ≡ None
+not-given st k new = none_of (map.get st k) (sym (given-has st k) ∙ new)
+
+-- one more name was given
+pub given-new : (st : Standings) (k : ℕ) (standing : Standing) → given_of (map.insert st k standing) ≡ set.insert (given_of st) k
+given-new st k standing = set.same_set nat_cmp_total map.nat_cmp-IsAntisymmetric _ _ (λ q.
+    given-has (map.insert st k standing) q ∙ ap is_some (map.get-insert nat_cmp_total st k standing q) ∙ some_here (eq_by_cmp nat_cmp q k) standing (map.get st q)
+    ∙ sym (set.contains-insert nat_cmp_total (given_of st) k q ∙ ap (λ b. eq_by_cmp nat_cmp q k || b) (given-has st q)))
+
+-- a name that was given stands for something else
+pub given-kept : (st : Standings) (k : ℕ) (standing was : Standing) → map.get st k ≡ Some was → given_of (map.insert st k standing) ≡ given_of st
+given-kept st k standing was there = set.same_set nat_cmp_total map.nat_cmp-IsAntisymmetric _ _ (λ q. given-has (map.insert st k standing) q ∙ same q ∙ sym (given-has st q)) where
+  same : (q : ℕ) → is_some (map.get (map.insert st k standing) q) ≡ is_some (map.get st q)
+  same q = elim (test q k) [
+    | inl p ↦ ap (λ n. is_some (map.get (map.insert st k standing) n)) p.0 ∙ ap is_some (get-insert_here st k standing) ∙ sym (ap (λ n. is_some (map.get st n)) p.0 ∙ ap is_some there)
+    | inr p ↦ ap is_some (get-insert_other st k standing q p.0)
+  ]
+
+pub given-empty : given_of map.empty ≡ set.empty
+given-empty = set.same_set nat_cmp_total map.nat_cmp-IsAntisymmetric _ _ (λ q. given-has map.empty q ∙ ap is_some (map.get-empty {X = Standing} nat_cmp q) ∙ sym (set.contains-empty nat_cmp q))
+
+own_in : (k : ℕ) (o : Option Standing) → IfSome (name_in k o) (λ (x : Name). x.number ≡ k)
+own_in k None = tt
+own_in k (Some Unmade) = refl
+own_in k (Some Gone) = tt
+own_in k (Some (Made place)) = refl
+
+-- a name is its own number
+pub own_number : (st : Standings) (k : ℕ) → IfSome (map.get (names_of st) k) (λ (x : Name). x.number ≡ k)
+own_number st k = rw (get_name st k) (own_in k (map.get st k))
+
+module _ {T : Type 0} where
+  -- the space without a name
+  abbrev pub without_name : Space T → ℕ → Space T
+  without_name s k = record s { names = map.remove s.names k; objects = map.remove s.objects k }
+
+  -- a name that was given stands for nothing any more
+  pub space-gone : (st : Standings) (s s2 : slab.Slab T) (k : ℕ) (was : Standing) → map.get st k ≡ Some was → KeepsOthers st s s2 k → space_of (map.insert st k Gone) s2 ≡ without_name (space_of st s) k
+  space-gone st s s2 k was there kept = λ i. record {
+    names = names-gone st k i;
+    objects = objects-gone st (map.insert st k Gone) s s2 k kept (λ q apart. get-insert_other st k Gone q apart) (ap (object_in s2) (get-insert_here st k Gone)) i;
+    given = given-kept st k Gone was there i;
+  }
+
+  -- a name that was never given
+  space-absent : (st : Standings) (s : slab.Slab T) (k : ℕ) → map.get st k ≡ None → space_of st s ≡ without_name (space_of st s) k
+  space-absent st s k none = λ i. record { names = sym (names-absent st k none) i; objects = sym (objects-absent st s k none) i; given = given_of st }
+
+  -- what a name without an object leaves
+  pub left_without_object : (st st2 : Standings) (s : slab.Slab T) (k : ℕ) (was : Option Standing) → IsPlaced st s → map.get st k ≡ was → OnSome was (st2 ≡ map.insert st k Gone) → IfNone was (st2 ≡ st)
+      → IsPlaced st2 s × (space_of st2 s ≡ without_name (space_of st s) k)
+  left_without_object st st2 s k None w there replaced absent = rw absent (w, space-absent st s k there)
+  left_without_object st st2 s k (Some was) w there replaced absent = rw replaced (placed-gone st s s w k (λ q place apart at. refl), space-gone st s s k was there (λ q place apart at. refl))
+
+pub placed-empty : {T : Type 0} (s : slab.Slab T) → IsPlaced map.empty s
 placed-empty s = record {
   full = λ q p at. let none = map.get-empty {X = Standing} nat_cmp q in cc;
   apart = λ q r p at too. let none = map.get-empty {X = Standing} nat_cmp q in cc;
-  none_after = λ q after. map.get-empty nat_cmp q;
 }
 
 pub names-empty : names_of map.empty ≡ map.empty

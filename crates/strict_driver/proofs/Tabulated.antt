@@ -5,7 +5,8 @@ use Rattle.std.specs.Cmp.{nat_cmp_total}
 use Rattle.std.specs.List.{list_any}
 use Rattle.std.specs.FinMap as map
 use Rattle.gl_base.proofs.Found.{test, get-insert_here, get-insert_other, get-remove_here, get-remove_other}
-use Rattle.strict_driver.specs.Standings.{with_found, tabulated}
+use Rattle.std.specs.Option.{option_map}
+use Rattle.strict_driver.specs.Tabulated.{with_found, tabulated, map_values}
 
 both_none : {X : Type 0} (b : Bool) (o : Option X) → o ≡ None → cond b o None ≡ None
 both_none true o e = e
@@ -55,3 +56,25 @@ module _ {X Y : Type 0} where
     | inl p ↦ ap f2 p.0 ∙ here ∙ sym (ap (map.get (map.remove (tabulated f (map.keys m)) k)) p.0 ∙ get-remove_here (tabulated f (map.keys m)) k)
     | inr p ↦ other q p.0 ∙ sym (get_tabulated m f keys q) ∙ sym (get-remove_other (tabulated f (map.keys m)) k q p.0)
   ])
+
+-- a map with other values
+module _ {X Y : Type 0} (f : X → Y) where
+  mapped_keys : (m : map.FinMap nat_cmp X) (q : ℕ) → map.get m q ≡ None → option_map f (map.get m q) ≡ None
+  mapped_keys m q none = ap (option_map f) none
+
+  pub get-map_values : (m : map.FinMap nat_cmp X) (q : ℕ) → map.get (map_values f m) q ≡ option_map f (map.get m q)
+  get-map_values m q = get_tabulated m (λ key. option_map f (map.get m key)) (mapped_keys m) q
+
+  pub map_values-insert : (m : map.FinMap nat_cmp X) (k : ℕ) (v : X) → map_values f (map.insert m k v) ≡ map.insert (map_values f m) k (f v)
+  map_values-insert m k v = tabulated-insert m (map.insert m k v) (λ q. option_map f (map.get m q)) (λ q. option_map f (map.get (map.insert m k v) q)) (mapped_keys m) (mapped_keys (map.insert m k v)) k (f v)
+      (ap (option_map f) (get-insert_here m k v)) (λ q apart. ap (option_map f) (get-insert_other m k v q apart))
+
+  pub map_values-remove : (m : map.FinMap nat_cmp X) (k : ℕ) → map_values f (map.remove m k) ≡ map.remove (map_values f m) k
+  map_values-remove m k = tabulated-remove m (map.remove m k) (λ q. option_map f (map.get m q)) (λ q. option_map f (map.get (map.remove m k) q)) (mapped_keys m) (mapped_keys (map.remove m k)) k
+      (ap (option_map f) (get-remove_here m k)) (λ q apart. ap (option_map f) (get-remove_other m k q apart))
+
+  pub map_values-empty : map_values f map.empty ≡ map.empty
+  map_values-empty = map.same_map nat_cmp_total map.nat_cmp-IsAntisymmetric _ _ (λ q. get-map_values map.empty q ∙ ap (option_map f) (map.get-empty nat_cmp q) ∙ sym (map.get-empty nat_cmp q))
+
+-- what a map with other values has, empty and after a change
+pub ruleset mapped = (get-map_values, map_values-insert, map_values-remove, map_values-empty)

@@ -1,6 +1,8 @@
 -- The definitions that contracts cite.
+pub mod Tabulated
 pub mod Standings
-pub mod Lent
+pub mod LentObject
+pub mod KeptBuffers
 pub mod TableState
 pub mod Given
 pub mod StrictView

@@ -1,41 +1,44 @@
 -- A strict driver as a driver.
 use Rattle.std.specs.Prelude.{◌≡◌, List, [], ◌++◌, None}
 use Rattle.std.proofs.Common.{append_assoc, append-nil, refl, sym, ◌∙◌, ap}
+use Rattle.gl_base.specs.declared.limits.TheConstants.{DEFAULT_SURFACE}
 use Rattle.gl_plain.specs.declared.driver_calls.DriverEntry.{DriverEntry}
-use Rattle.gl_plain.specs.Tables.{opening_driver}
+use Rattle.gl_plain.specs.State.{opening_driver}
 use Rattle.gl_plain.specs.Journal.{state_after}
-use Rattle.gl_plain.specs.Oracle.{Oracle, told, no_answers}
+use Rattle.gl_plain.specs.Oracle.{Oracle, answers_of, no_answers}
+use Rattle.gl_plain.specs.driver.Answers.{told, behind_entries}
 use Rattle.gl_plain.proofs.Journals.{told-append}
 use Rattle.gl_driver.specs.History.{History}
 use Rattle.strict_driver.specs.StrictView.{StrictView}
-use Rattle.strict_driver.specs.Given.{no_counts, answers_from}
 
 -- a driver that was given no call and no answers
 abbrev pub new_driver : StrictView
-new_driver = record { journal = []; loaded = no_answers; counts = no_counts; stop = None; ooms = 0; losses = 0 }
+new_driver = record { surface = DEFAULT_SURFACE; journal = []; loaded = no_answers; stop = None; ooms = 0; losses = 0 }
 
 -- its state is what its journal leaves
 abbrev pub history_of : StrictView → History
-history_of s = record { state = state_after opening_driver s.journal; journal = s.journal; stop = s.stop; ooms = s.ooms; losses = s.losses }
+history_of s = record { state = state_after (opening_driver s.surface) s.journal; journal = s.journal; stop = s.stop; ooms = s.ooms; losses = s.losses }
 
--- what it will answer from now on
+-- what it will answer from now on: the loaded answers behind those that its journal has
 abbrev pub answers_left : StrictView → Oracle
-answers_left s = answers_from s.loaded.oom s.counts
+answers_left s = behind_entries s.journal (answers_of s.loaded)
 
--- the journal goes on with the answers that the earlier value would give, and what was loaded stays
+-- the journal goes on with the answers that the earlier value would give, and the surface and what was loaded stay
 pub record Continues (a b : StrictView) : Type 0 where
   pub more : List DriverEntry
   pub journal : b.journal ≡ a.journal ++ more
   pub answers : told more (answers_left b) ≡ answers_left a
+  pub surface : b.surface ≡ a.surface
   pub loaded : b.loaded ≡ a.loaded
 
 pub continues_itself : (a : StrictView) → Continues a a
-continues_itself a = record { more = []; journal = sym (append-nil a.journal); answers = refl; loaded = refl }
+continues_itself a = record { more = []; journal = sym (append-nil a.journal); answers = refl; surface = refl; loaded = refl }
 
 pub continues_further : (a b c : StrictView) → Continues a b → Continues b c → Continues a c
 continues_further a b c p q = record {
   more = p.more ++ q.more;
   journal = q.journal ∙ ap (λ (j : List DriverEntry). j ++ q.more) p.journal ∙ append_assoc a.journal p.more q.more;
   answers = told-append p.more q.more (answers_left c) ∙ ap (told p.more) q.answers ∙ p.answers;
+  surface = q.surface ∙ p.surface;
   loaded = q.loaded ∙ p.loaded;
 }

@@ -1,32 +1,48 @@
 //! How far the answers of a driver have gone.
-ghost use Rattle.std.specs.Prelude.{◌≡◌, ◌≤◌, ◌^◌, ◌⊎◌, IfSome, IfNone};
-ghost use Rattle.strict_driver.specs.Given.{counts_after};
+ghost use Rattle.std.specs.Prelude.{List, ℕ, ◌≡◌, ◌≤◌, ◌+◌, ◌^◌, ◌⊎◌, IfSome, IfNone};
+ghost use Rattle.gl_plain.specs.driver.Answers.{behind_object};
+ghost use Rattle.strict_driver.specs.Given.{answers_from, no_counts};
 
 use gl_plain::ObjectDriver;
 
-/// How many names a driver gave, and how often it was asked for room.
+/// How many names a driver gave in each name space, and how often it was asked for room.
 #[derive(Clone, Copy, Debug, PartialEq, Eq)]
 pub struct Counts {
-    pub buffer_names: u64,
-    pub asked: u64,
+    pub buffers: u64,
+    pub stores: u64,
 }
 
 impl Counts {
+    /// Nothing was given, and it was not asked for room.
+    pub fn new() -> Counts
+        ensures { result ≡ no_counts }
+    {
+        Counts {
+            buffers: 0,
+            stores: 0,
+        }
+    }
+
     /// The counts after a call, or none past the end of their type.
     pub fn after(self, call: &ObjectDriver) -> Option<Counts>
-        ensures some { IfSome result (λ counts. counts ≡ counts_after self call.now) }
-        ensures none { IfNone result ((2 ^ 64 ≤ (counts_after self call.now).buffer_names) ⊎ (2 ^ 64 ≤ (counts_after self call.now).asked)) }
+        ensures some { IfSome result (λ counts. (oom : List ℕ) → answers_from oom counts ≡ behind_object call.now (answers_from oom self)) }
+        ensures none { IfNone result ((2 ^ 64 ≤ self.buffers + 1) ⊎ (2 ^ 64 ≤ self.stores + 1)) }
     {
         match call {
             ObjectDriver::GenBuffer => Some(Counts {
-                buffer_names: self.buffer_names.checked_add(1)?,
+                buffers: self.buffers.checked_add(1)?,
                 ..self
             }),
             ObjectDriver::BufferData { .. } => Some(Counts {
-                asked: self.asked.checked_add(1)?,
+                stores: self.stores.checked_add(1)?,
                 ..self
             }),
-            _ => Some(self),
+            ObjectDriver::BindBuffer { .. }
+            | ObjectDriver::BufferSubData { .. }
+            | ObjectDriver::DeleteBuffer { .. }
+            | ObjectDriver::VertexAttrib4 { .. }
+            | ObjectDriver::VertexAttribPointer { .. }
+            | ObjectDriver::SetArray { .. } => Some(self),
         }
     }
 }

@@ -1,11 +1,12 @@
 //! The names of a name space, in the order in which they were given, and their objects.
-ghost use Rattle.std.specs.Prelude.{◌≡◌, ◌+◌, OnOk, OnErr, IfSome, Some, None};
+ghost use Rattle.std.specs.Prelude.{◌≡◌, OnOk, OnErr, IfSome, Some, false};
 ghost use Rattle.std.specs.FinMap as map;
-ghost use Rattle.std.specs.Option.{option_copied, option_copied_mut};
+ghost use Rattle.std.specs.FinSet as set;
+ghost use Rattle.std.specs.Option.{option_copied_mut};
 ghost use Rattle.std.specs.Borrow.{sem};
-ghost use Rattle.gl_plain.specs.Effect.{named, made_object, new_name};
+ghost use Rattle.gl_plain.specs.subjects.Names.{made_object, named, new_name};
 ghost use Rattle.strict_driver.specs.Standings.{empty_space, name_in, place_in};
-ghost use Rattle.strict_driver.specs.Lent.{lends_object};
+ghost use Rattle.strict_driver.specs.LentObject.{lends_object};
 
 use crate::ordered::OrderedMap;
 use gl_plain::Name;
@@ -29,17 +30,15 @@ fn standing_name(name: u64, standing: Option<Standing>) -> Option<Name>
     ensures value { result ≡ name_in name standing }
     ensures own { IfSome result (λ found. found.number ≡ name) }
 {
-    match standing {
-        None | Some(Standing::Gone) => None,
-        Some(Standing::Unmade) => Some(Name {
-            number: name,
-            is_object: false,
-        }),
-        Some(Standing::Made(_)) => Some(Name {
-            number: name,
-            is_object: true,
-        }),
-    }
+    let is_object = match standing {
+        None | Some(Standing::Gone) => return None,
+        Some(Standing::Unmade) => false,
+        Some(Standing::Made(_)) => true,
+    };
+    Some(Name {
+        number: name,
+        is_object,
+    })
 }
 
 /// The place of a name's object, if it has one.
@@ -58,19 +57,18 @@ fn standing_place(standing: Option<Standing>) -> Option<usize>
 pub struct NameSpace<T> {
     standings: OrderedMap<Standing>,
     objects: Slab<T>,
-    last: u64,
 }
 
 impl<T> Model for NameSpace<T> {
-    ghost use Rattle.strict_driver.specs.Standings.{Space, space_code, names_of, objects_of, IsPlaced};
+    ghost use Rattle.strict_driver.specs.Standings.{Space, space_code, space_of, IsPlaced};
 
     ghost Value = { Space T };
 
     ghost coded = { space_code T.code };
 
-    ghost view = { λ a. record { names = names_of a.standings; objects = objects_of a.standings a.objects; last = a.last } };
+    ghost view = { λ a. space_of a.standings a.objects };
 
-    ghost invariant = { λ a. IsPlaced a.standings a.objects a.last };
+    ghost invariant = { λ a. IsPlaced a.standings a.objects };
 }
 
 impl<T> NameSpace<T> {
@@ -81,15 +79,7 @@ impl<T> NameSpace<T> {
         NameSpace {
             standings: OrderedMap::new(alloc),
             objects: Slab::new(alloc),
-            last: 0,
         }
-    }
-
-    /// The name that was given last, or 0.
-    pub fn last(&self) -> u64
-        ensures { result ≡ self.now.last }
-    {
-        self.last
     }
 
     /// What is kept of a name in use.
@@ -99,25 +89,16 @@ impl<T> NameSpace<T> {
     {
         standing_name(name, self.standings.get(name).copied())
     }
-
-    /// The object of a name.
-    pub fn object(&self, name: u64) -> Option<&T>
-        ensures { option_copied result ≡ map.get self.now.objects name }
-    {
-        let place = standing_place(self.standings.get(name).copied())?;
-        self.objects.get(place)
-    }
 }
 
 impl<T: Drop> NameSpace<T> {
-    /// Gives the next name. Without memory for it all is as before.
+    /// Gives a name that was never given before. Without memory for it all is as before.
     pub fn give(&mut self, name: u64) -> Result<(), AllocError>
-        requires { name ≡ self.old.last + 1 }
-        ensures ok { OnOk result (self.new ≡ record self.old { names = named self.old.names name name; last = name }) }
+        requires { set.contains self.old.given name ≡ false }
+        ensures ok { OnOk result (self.new ≡ record self.old { names = named self.old.names name name; given = set.insert self.old.given name }) }
         ensures err { OnErr result (self.new ≡ self.old) }
     {
         self.standings.insert(name, Standing::Unmade)?;
-        self.last = name;
         Ok(())
     }
 
@@ -128,7 +109,7 @@ impl<T: Drop> NameSpace<T> {
         ensures err { OnErr result (self.new ≡ self.old) }
     {
         let place = self.objects.insert(object)?;
-        self.standings.replace(name, Standing::Made(place));
+        let _unmade = self.standings.replace(name, Standing::Made(place));
         Ok(())
     }
 
@@ -146,14 +127,11 @@ impl<T: Drop> NameSpace<T> {
 
     /// Takes a name out of use, with its object, which it gives.
     pub fn remove(&mut self, name: u64) -> Option<T>
+        ensures own { IfSome (map.get self.old.names name) (λ x. x.number ≡ name) }
         ensures object { result ≡ map.get self.old.objects name }
         ensures rest { self.new ≡ record self.old { names = map.remove self.old.names name; objects = map.remove self.old.objects name } }
     {
-        let standing = self.standings.get(name).copied()?;
-        self.standings.replace(name, Standing::Gone);
-        match standing {
-            Standing::Made(place) => self.objects.try_remove(place),
-            _ => None,
-        }
+        let place = standing_place(self.standings.replace(name, Standing::Gone))?;
+        self.objects.try_remove(place)
     }
 }

@@ -1,12 +1,12 @@
 //! A map from numbers that keeps the order in which they came.
-ghost use Rattle.std.specs.Prelude.{◌≡◌, OnOk, OnErr, None, true};
-ghost use Rattle.std.specs.Ordering.{nat_cmp};
+ghost use Rattle.std.specs.Prelude.{◌≡◌, OnOk, OnErr, OnSome, IfNone};
 ghost use Rattle.std.specs.FinMap as map;
 ghost use Rattle.std.specs.Option.{option_copied};
 
 use indexmap::IndexMap;
 use std::alloc::{AllocError, Global};
 use std::marker::Model;
+use std::mem;
 
 /// A map from numbers that keeps the order in which they came, seen as a finite map.
 #[derive(Drop)]
@@ -49,20 +49,18 @@ impl<T: Drop> OrderedMap<T> {
     pub fn insert(&mut self, key: u64, value: T) -> Result<(), AllocError>
         ensures ok { OnOk result (self.new ≡ map.insert self.old key value) }
         ensures err { OnErr result (self.new ≡ self.old) }
-        ensures only_new { OnErr result (map.get self.old key ≡ None) }
     {
         self.entries.insert(key, value)?;
         Ok(())
     }
 
-    /// Writes a value in place of the one that is there. It takes no memory.
-    pub fn replace(&mut self, key: u64, value: T)
-        requires { map.contains_key self.old key ≡ true }
-        ensures { self.new ≡ map.insert self.old key value }
+    /// Writes a value in place of the one that a key has, and gives that. Nothing is done where it has none. It takes no memory.
+    pub fn replace(&mut self, key: u64, value: T) -> Option<T>
+        ensures before { result ≡ map.get self.old key }
+        ensures replaced { OnSome result (self.new ≡ map.insert self.old key value) }
+        ensures absent { IfNone result (self.new ≡ self.old) }
     {
-        match self.insert(key, value) {
-            Ok(()) => {}
-            Err(_) => unreachable!(),
-        }
+        let place = self.entries.get_mut(&key)?;
+        Some(mem::replace(place, value))
     }
 }

@@ -1,21 +1,23 @@
 //! The strict driver.
-ghost use Rattle.std.specs.Prelude.{◌≡◌, ◌≤◌, ◌<◌, ◌+◌, ◌++◌, [], ◌∷◌, length, OnOk, OnErr, IfSome, None, Some, Err};
+ghost use Rattle.std.specs.Prelude.{◌≡◌, ◌≤◌, ◌<◌, ◌+◌, ◌++◌, [], ◌∷◌, length, OnOk, OnErr, IfSome, None, Some, Err, false};
 ghost use Rattle.std.specs.Prelude.{◌==◌};
 ghost use Rattle.std.specs.List.{list_any};
 ghost use Rattle.std.specs.List.Sorted.{IsNonDecreasing};
 ghost use Rattle.gl_plain.specs.declared.driver_calls.DriverEntry.{DriverEntry};
 ghost use Rattle.gl_plain.specs.declared.driver_calls.DriverCall.TheVariants as calls;
-ghost use Rattle.gl_plain.specs.Tables.{opening_driver};
-ghost use Rattle.gl_plain.specs.Allowed.{IsObjectAllowed};
+ghost use Rattle.gl_plain.specs.State.{opening_driver};
+ghost use Rattle.gl_plain.specs.driver.Allowed.{IsObjectAllowed};
+ghost use Rattle.gl_plain.specs.driver.Answers.{AreAnsweredBy, object_answer, stored_answer, told};
 ghost use Rattle.gl_plain.specs.Journal.{IsLegal, state_after};
-ghost use Rattle.gl_plain.specs.Oracle.{answers_of, stored_at, told};
-ghost use Rattle.gl_driver.specs.History.{Served, Caused, Rose, stored_answer};
-ghost use Rattle.strict_driver.specs.Given.{is_lost_at, next_answer};
+ghost use Rattle.gl_plain.specs.Oracle.{answers_of, first};
+ghost use Rattle.gl_driver.specs.History.{Served, Caused, Rose, is_oom};
+ghost use Rattle.strict_driver.specs.Given.{is_lost_at};
 ghost use Rattle.strict_driver.specs.StrictHistory.{new_driver, history_of, Continues, answers_left};
 
 use crate::counts::Counts;
 use crate::tables::Tables;
 use gl_base::GlEnum;
+use gl_base::limits::DEFAULT_SURFACE;
 use gl_driver::{Driver, DriverStop, Stored};
 use gl_plain::{Answer, Answers, Bytes, DriverCall, DriverEntry, EntryList, ObjectDriver, Words};
 use std::alloc::Global;
@@ -48,30 +50,27 @@ impl Model for StrictDriver {
 }
 
 impl StrictDriver {
-    /// A driver that was given no call and no answers. It takes no memory.
+    /// A driver that was given no call and no answers, with the default sides of its framebuffer. It takes no memory.
     pub fn new(alloc: Global) -> StrictDriver
         ensures { result ≡ new_driver }
     {
         StrictDriver {
             alloc,
-            tables: Tables::new(alloc),
+            tables: Tables::new(alloc, DEFAULT_SURFACE),
             journal: EntryList::new(alloc),
             loaded: Answers::new(alloc),
-            counts: Counts {
-                buffer_names: 0,
-                asked: 0,
-            },
+            counts: Counts::new(),
             stop: None,
             ooms: 0,
             losses: 0,
         }
     }
 
-    /// Sets what it will answer, before its first call. It takes no memory.
-    pub fn load(&mut self, answers: Answers)
+    /// Opens it with a default framebuffer of these sides, and sets what it will answer, before its first call. It takes no memory.
+    pub fn load(&mut self, surface: (u32, u32), answers: Answers)
         requires opening { self.old.journal ≡ [] }
         requires going { self.old.stop ≡ None }
-        ensures rest { self.new ≡ record self.old { loaded = self.new.loaded } }
+        ensures rest { self.new ≡ record self.old { surface = surface; loaded = self.new.loaded } }
         ensures answers { answers_left self.new ≡ answers_of answers }
         ensures lost { self.new.loaded.lost ≡ answers.lost }
     {
@@ -81,13 +80,17 @@ impl StrictDriver {
             oom: Words::from_vec(oom),
             lost: answers.lost,
         };
+        self.counts = Counts::new();
+        self.tables = Tables::new(self.alloc, surface);
     }
 
     /// The calls so far with their answers, in order. Each met its condition in the state that the earlier ones left, and the answers
     /// are those that were loaded. There are no more of them than are answered before the driver is lost, and as many where it was.
+    #[tactic(auto, using(crate::proofs::Answered::told_behind))]
     pub fn journal(&self) -> &[DriverEntry]
         ensures exact { result.now ≡ self.now.journal }
-        ensures legal { IsLegal opening_driver self.now.journal }
+        ensures legal { IsLegal (opening_driver self.now.surface) self.now.journal }
+        ensures answered { AreAnsweredBy (answers_of self.now.loaded) self.now.journal }
         ensures answers { told self.now.journal (answers_left self.now) ≡ answers_of self.now.loaded }
         ensures within { IfSome self.now.loaded.lost (λ n. length self.now.journal ≤ n) }
         ensures lost { self.now.stop ≡ Some DriverStop.Lost → self.now.loaded.lost ≡ Some (length self.now.journal) }
@@ -134,11 +137,18 @@ impl StrictDriver {
         Ok(())
     }
 
+    /// The name that is given next in the name space of buffers, or none past the end of its type.
+    fn next_buffer(&self) -> Option<u64>
+        ensures { IfSome result (λ name. name ≡ first (answers_left self.now).buffers) }
+    {
+        self.counts.buffers.checked_add(1)
+    }
+
     /// Whether the next question for room finds some.
     fn room(&self) -> Stored
-        ensures { result ≡ stored_at self.now.loaded.oom self.now.counts.asked }
+        ensures { result ≡ first (answers_left self.now).stored }
     {
-        if is_among(self.loaded.oom.as_slice(), self.counts.asked) {
+        if is_among(self.loaded.oom.as_slice(), self.counts.stores) {
             Stored::Oom
         } else {
             Stored::Done
@@ -149,8 +159,8 @@ impl StrictDriver {
     fn enter(&mut self, call: ObjectDriver, answer: Answer) -> Result<(), DriverStop>
         requires going { self.old.stop ≡ None }
         requires within { IfSome self.old.loaded.lost (λ n. length self.old.journal < n) }
-        requires allowed { IsObjectAllowed (state_after opening_driver self.old.journal) call }
-        requires next { answer ≡ next_answer self.old.loaded.oom self.old.counts call }
+        requires allowed { IsObjectAllowed (history_of self.old).state.tables call }
+        requires next { answer ≡ object_answer (answers_left self.old) call }
         ensures served { OnOk result (Served history_of Continues self.old self.new (record { call = calls.Object call; answer = answer } ∷ [])) }
         ensures stopped { OnErr result (Served history_of Continues self.old self.new []) }
         ensures cause { Caused (history_of self.old) (history_of self.new) result }
@@ -159,25 +169,22 @@ impl StrictDriver {
         let Some(counts) = self.counts.after(&call) else {
             return Err(self.stop());
         };
-        let Ok(()) = self.tables.apply(&call, &answer) else {
-            return Err(self.stop());
+        let Ok(()) = self.tables.apply(self.journal.as_slice(), &call, &answer) else {
+            self.stop = Some(DriverStop::NoMemory);
+            return Err(DriverStop::NoMemory);
         };
         let ooms = ooms_after(self.ooms, &answer);
         let entry = DriverEntry {
             call: DriverCall::Object(call),
             answer,
         };
-        match self.journal.push(entry) {
-            Err(_) => {
-                self.stop = Some(DriverStop::NoMemory);
-                Err(DriverStop::NoMemory)
-            }
-            Ok(()) => {
-                self.counts = counts;
-                self.ooms = ooms;
-                Ok(())
-            }
-        }
+        let Ok(()) = self.journal.push(entry) else {
+            self.stop = Some(DriverStop::NoMemory);
+            return Err(DriverStop::NoMemory);
+        };
+        self.counts = counts;
+        self.ooms = ooms;
+        Ok(())
     }
 }
 
@@ -194,12 +201,13 @@ fn is_among(sorted: &[u32], number: u64) -> bool
 
 /// How often there was no room after an answer.
 fn ooms_after(ooms: u64, answer: &Answer) -> u64
-    ensures counted { ooms ≤ result }
+    ensures rises { ooms ≤ result }
+    ensures still { is_oom answer.now ≡ false → result ≡ ooms }
     ensures oom { answer.now ≡ Answer.Oom → Rose ooms result }
 {
     match answer {
         Answer::Oom => ooms.saturating_add(1),
-        _ => ooms,
+        Answer::Done | Answer::Name(_) => ooms,
     }
 }
 
@@ -212,7 +220,7 @@ impl Driver for StrictDriver {
 
     fn gen_buffer(&mut self) -> Result<u64, DriverStop> {
         self.ready()?;
-        let Some(name) = self.counts.buffer_names.checked_add(1) else {
+        let Some(name) = self.next_buffer() else {
             return Err(self.stop());
         };
         match self.enter(ObjectDriver::GenBuffer, Answer::Name(name)) {

@@ -4,3 +4,6 @@
 mod table;
 
 pub use table::{NameRefusal, NameTable};
+
+#[cfg(test)]
+mod tests;

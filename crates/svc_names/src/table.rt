@@ -9,12 +9,10 @@ ghost use Rattle.gl_base.specs.Names as names;
 ghost use Rattle.svc_names.specs.Answers.{IsAnswer, is_full_for};
 ghost use Rattle.svc_names.specs.Lent.{lends_value};
 
+use gl_base::limits::NAME_LIMIT;
 use gl_base::{NumberMap, is_ordinary};
 use std::alloc::Global;
 use std::marker::Model;
-
-/// How many ordinary names a table may have.
-const MOST_ORDINARY_NAMES: u32 = 65_536;
 
 /// Why a name was not added. It hands the value back.
 #[derive(Debug, PartialEq, Eq, Drop)]
@@ -40,6 +38,7 @@ impl<T> Model for NameTable<T> {
     ghost use Rattle.std.specs.FinMap as map;
     ghost use Rattle.std.specs.Coded.{coded_ℕ};
     ghost use Rattle.gl_base.specs.Names.{ordinary_count};
+    ghost use Rattle.gl_base.specs.declared.limits.TheConstants.{NAME_LIMIT};
 
     ghost Value = { map.FinMap nat_cmp T };
 
@@ -47,7 +46,7 @@ impl<T> Model for NameTable<T> {
 
     ghost view = { λ a. a.entries };
 
-    ghost invariant = { λ a. (a.ordinary ≡ ordinary_count a.entries) × (a.ordinary ≤ 65536) };
+    ghost invariant = { λ a. (a.ordinary ≡ ordinary_count a.entries) × (a.ordinary ≤ NAME_LIMIT) };
 }
 
 impl<T> NameTable<T> {
@@ -72,10 +71,10 @@ impl<T> NameTable<T> {
     pub fn is_over_limit(&self, more: u32) -> bool
         ensures { result ≡ names.is_over_limit self.now more }
     {
-        MOST_ORDINARY_NAMES - self.ordinary < more
+        NAME_LIMIT - self.ordinary < more
     }
 
-    // Whether the name is one that the table has no room for.
+    /// Whether the name is one that the table has no room for.
     fn is_full_for(&self, id: u32) -> bool
         ensures { result ≡ is_full_for self.now id }
     {
@@ -138,75 +137,5 @@ impl<T: Drop> NameTable<T> {
             self.ordinary -= 1;
         }
         Some(removed)
-    }
-}
-
-#[cfg(test)]
-mod tests {
-    use super::*;
-    use std::process::Abort;
-
-    fn full_table(rt: &impl Abort, alloc: Global) -> NameTable<u32> {
-        let mut table = NameTable::new(alloc);
-        for id in 1..65_537 {
-            assert!(rt; !table.is_over_limit(1), "at {id}");
-            assert_eq!(rt; table.add(id, id), Ok(()), "at {id}");
-        }
-        table
-    }
-
-    #[test]
-    fn keeps_values_by_name(rt: HostRuntime) {
-        let mut table = NameTable::<u32>::new(rt.alloc());
-        assert_eq!(rt; table.add(5, 50), Ok(()));
-        assert_eq!(rt; table.add(5, 51), Err(NameRefusal::InUse(51)));
-        assert_eq!(rt; table.find(5).copied(), Some(50));
-        assert_eq!(rt; table.find(6).copied(), None);
-        if let Some(value) = table.find_mut(5) {
-            *value += 3;
-        }
-        assert_eq!(rt; table.find(5).copied(), Some(53));
-        assert!(rt; table.replace(5, 54));
-        assert!(rt; !table.replace(6, 60));
-        assert_eq!(rt; table.remove(6), None);
-        assert_eq!(rt; table.remove(5), Some(54));
-        assert_eq!(rt; table.add(5, 55), Ok(()));
-        assert_eq!(rt; table.find(5).copied(), Some(55));
-    }
-
-    #[test]
-    fn only_ordinary_names_fill_the_table(rt: HostRuntime) {
-        let mut table = full_table(&rt, rt.alloc());
-        assert!(rt; !table.is_over_limit(0));
-        assert!(rt; table.is_over_limit(1));
-        assert!(rt; table.is_over_limit(u32::MAX));
-
-        let rows = [
-            (1, Err(NameRefusal::InUse(9))),
-            (65_536, Err(NameRefusal::InUse(9))),
-            (65_537, Err(NameRefusal::Full(9))),
-            (0xFFFF_FEFF, Err(NameRefusal::Full(9))),
-            (0, Ok(())),
-            (0xFFFF_FF00, Ok(())),
-            (0xFFFF_FF10, Ok(())),
-            (0xFFFF_FF11, Ok(())),
-            (0xFFFF_FF11, Err(NameRefusal::InUse(9))),
-        ];
-        for (id, answer) in rows {
-            assert_eq!(rt; table.add(id, 9), answer, "at {id}");
-        }
-    }
-
-    #[test]
-    fn a_removed_name_makes_room_if_it_is_ordinary(rt: HostRuntime) {
-        let mut table = full_table(&rt, rt.alloc());
-        assert_eq!(rt; table.add(0xFFFF_FF00, 1), Ok(()));
-        assert_eq!(rt; table.remove(0xFFFF_FF00), Some(1));
-        assert_eq!(rt; table.add(0xFFFF_FEFF, 2), Err(NameRefusal::Full(2)));
-        assert_eq!(rt; table.remove(7), Some(7));
-        assert_eq!(rt; table.add(0xFFFF_FEFF, 2), Ok(()));
-        assert_eq!(rt; table.add(7, 3), Err(NameRefusal::Full(3)));
-        assert_eq!(rt; table.remove(0xFFFF_FEFF), Some(2));
-        assert_eq!(rt; table.add(7, 3), Ok(()));
     }
 }

@@ -1,43 +1,44 @@
-use Rattle.std.proofs.Common.{sym, ◌∙◌, ap}
-use Rattle.gl_plain.proofs.BuffersAgree.{opening_agrees}
-use Rattle.strict_driver.specs.StrictHistory.{answers_left}
-use Rattle.gles2_run.proofs.Runs.{done_holds, bad_holds, lost_holds, short_holds, nothing_held}
+use Rattle.std.proofs.Common.{◌≡◌, sym, ◌∙◌, ap, subst, inr, List, []}
+use Rattle.gl_plain.specs.declared.calls.Reply.{Reply}
+use Rattle.cb_shm.specs.HostileMemories.{memory_of}
+use Rattle.decoder_core.specs.Side.{side}
+use Rattle.strict_driver.specs.StrictView.{StrictView}
+use Rattle.gles2_run.specs.declared.desk.Desk.{Desk}
+use Rattle.gles2_run.specs.Desks.{new_desk, loaded_driver}
+use Rattle.gles2_run.specs.Puts.{TookPuts}
+use Rattle.gles2_run.proofs.Runs.{IsStart, IsEnd, starts, agrees_at_start, are_given, done_holds, bad_holds, lost_holds, short_holds}
 use Rattle.gles2_run.proofs.working.execute.Goals as goal
 
 pub take_puts-taken-requires-clause-agrees : goal.take_puts-taken-requires-clause-agrees
-take_puts-taken-requires-clause-agrees c = rw (c.new-service.ensures, c.load.ensures.rest, c.requires.fresh) opening_agrees
+take_puts-taken-requires-clause-agrees c = agrees_at_start c.args.script c.new-service.result c.load.new.self c.new-service.ensures (c.load.ensures.rest ∙ ap (λ (desk : Desk). record desk.driver { surface = c.args.script.surface; loaded = c.load.new.self.loaded }) c.requires.fresh)
+
+module _ (c : goal.After-drop-memory-2) where
+  fresh_driver : c.load.new.self ≡ loaded_driver c.args.script.surface c.load.new.self.loaded
+  fresh_driver = c.load.ensures.rest ∙ ap (λ (desk : Desk). record desk.driver { surface = c.args.script.surface; loaded = c.load.new.self.loaded }) c.requires.fresh
+
+  start : IsStart c.args.script (side c.new-service.result (memory_of c.in-Ok.memory) c.load.new.self) c.as_slice.result.now
+  start = starts c.args.script c.new-service.result c.in-Ok.memory c.load.new.self c.as_slice.result.now c.new-service.ensures c.in-Ok.ensures.described c.in-Ok.ensures.no_copies c.as_slice.ensures fresh_driver c.load.ensures.answers c.load.ensures.lost
+
+  end : IsEnd c.args.script (side c.take_puts-taken.new.service (memory_of c.take_puts-taken.new.memory) c.take_puts-taken.new.desk.driver)
+  end = record {
+    given = are_given c.args.script 0 c.take_puts-taken.new.memory.history.copies (c.take_puts-taken.ensures.grows c.args.script c.in-Ok.ensures.described).copies_are;
+    legal = c.journal.ensures.legal;
+    answered = c.journal.ensures.answered;
+    pinned = c.journal.ensures.answers;
+    within = c.journal.ensures.within;
+  }
+
+  taken : TookPuts (side c.new-service.result (memory_of c.in-Ok.memory) c.load.new.self) [] c.as_slice.result.now (side c.take_puts-taken.new.service (memory_of c.take_puts-taken.new.memory) c.take_puts-taken.new.desk.driver) c.take_puts-taken.new.desk.answers c.take_puts-taken.result
+  taken = subst (λ (before : List Reply). TookPuts (side c.new-service.result (memory_of c.in-Ok.memory) c.load.new.self) before c.as_slice.result.now (side c.take_puts-taken.new.service (memory_of c.take_puts-taken.new.memory) c.take_puts-taken.new.desk.driver) c.take_puts-taken.new.desk.answers c.take_puts-taken.result) (ap (λ (desk : Desk). desk.answers) c.requires.fresh) c.take_puts-taken.ensures.taken
 
 pub returns-clause-done : goal.returns-clause-done
-returns-clause-done c =
-    let loaded = rw c.requires.fresh at c.load.ensures.rest in
-    let taken = rw (c.new-service.ensures, c.requires.fresh) at c.take_puts-taken.ensures.taken in
-    let still = c.take_puts-taken.ensures.grows c.args.script c.in-Ok.ensures.described in
-    done_holds c.args.script c.load.new.self.loaded (ap answers_left (sym loaded) ∙ c.load.ensures.answers) c.in-Ok.memory c.take_puts-taken.new.memory c.as_slice.result.now c.in-Ok.ensures.described c.in-Ok.ensures.no_copies c.as_slice.ensures still
-    c.take_puts-taken.new.service c.take_puts-taken.new.desk.driver c.take_puts-taken.new.desk.answers c.load.ensures.lost c.journal.ensures.within c.load.new.self loaded c.take_puts-taken.result taken
+returns-clause-done c = done_holds c.args.script (side c.new-service.result (memory_of c.in-Ok.memory) c.load.new.self) (side c.take_puts-taken.new.service (memory_of c.take_puts-taken.new.memory) c.take_puts-taken.new.desk.driver) c.as_slice.result.now (start c) (end c) c.take_puts-taken.new.desk.answers c.take_puts-taken.result (taken c)
 
 pub returns-clause-bad : goal.returns-clause-bad
-returns-clause-bad c =
-    let loaded = rw c.requires.fresh at c.load.ensures.rest in
-    let taken = rw (c.new-service.ensures, c.requires.fresh) at c.take_puts-taken.ensures.taken in
-    let still = c.take_puts-taken.ensures.grows c.args.script c.in-Ok.ensures.described in
-    bad_holds c.args.script c.load.new.self.loaded (ap answers_left (sym loaded) ∙ c.load.ensures.answers) c.in-Ok.memory c.take_puts-taken.new.memory c.as_slice.result.now c.in-Ok.ensures.described c.in-Ok.ensures.no_copies c.as_slice.ensures still
-    c.take_puts-taken.new.service c.take_puts-taken.new.desk.driver c.take_puts-taken.new.desk.answers c.load.ensures.lost c.journal.ensures.within c.load.new.self loaded c.take_puts-taken.result taken
+returns-clause-bad c = bad_holds c.args.script (side c.new-service.result (memory_of c.in-Ok.memory) c.load.new.self) (side c.take_puts-taken.new.service (memory_of c.take_puts-taken.new.memory) c.take_puts-taken.new.desk.driver) c.as_slice.result.now (start c) (end c) c.take_puts-taken.new.desk.answers c.take_puts-taken.result (taken c)
 
 pub returns-clause-lost : goal.returns-clause-lost
-returns-clause-lost c =
-    let loaded = rw c.requires.fresh at c.load.ensures.rest in
-    let taken = rw (c.new-service.ensures, c.requires.fresh) at c.take_puts-taken.ensures.taken in
-    let still = c.take_puts-taken.ensures.grows c.args.script c.in-Ok.ensures.described in
-    lost_holds c.args.script c.load.new.self.loaded (ap answers_left (sym loaded) ∙ c.load.ensures.answers) c.in-Ok.memory c.take_puts-taken.new.memory c.as_slice.result.now c.in-Ok.ensures.described c.in-Ok.ensures.no_copies c.as_slice.ensures still
-    c.take_puts-taken.new.service c.take_puts-taken.new.desk.driver c.take_puts-taken.new.desk.answers c.load.ensures.lost c.journal.ensures.within c.load.new.self loaded c.take_puts-taken.result taken c.journal.ensures.lost
+returns-clause-lost c = lost_holds c.args.script (side c.new-service.result (memory_of c.in-Ok.memory) c.load.new.self) (side c.take_puts-taken.new.service (memory_of c.take_puts-taken.new.memory) c.take_puts-taken.new.desk.driver) c.as_slice.result.now (start c) (end c) c.take_puts-taken.new.desk.answers c.take_puts-taken.result (taken c) c.journal.ensures.lost
 
 pub returns-clause-short : goal.returns-clause-short
-returns-clause-short c =
-    let loaded = rw c.requires.fresh at c.load.ensures.rest in
-    let taken = rw (c.new-service.ensures, c.requires.fresh) at c.take_puts-taken.ensures.taken in
-    let still = c.take_puts-taken.ensures.grows c.args.script c.in-Ok.ensures.described in
-    short_holds c.args.script c.load.new.self.loaded (ap answers_left (sym loaded) ∙ c.load.ensures.answers) c.in-Ok.memory c.take_puts-taken.new.memory c.as_slice.result.now c.in-Ok.ensures.described c.in-Ok.ensures.no_copies c.as_slice.ensures still
-    c.take_puts-taken.new.service c.take_puts-taken.new.desk.driver c.take_puts-taken.new.desk.answers c.load.ensures.lost c.journal.ensures.within c.load.new.self loaded c.take_puts-taken.result taken
-
-pub returns-in_default-clause-short : goal.returns-in_default-clause-short
-returns-in_default-clause-short c = λ e. rw c.requires.fresh (nothing_held c.args.script)
+returns-clause-short c = λ is. inr (short_holds c.args.script (side c.new-service.result (memory_of c.in-Ok.memory) c.load.new.self) (side c.take_puts-taken.new.service (memory_of c.take_puts-taken.new.memory) c.take_puts-taken.new.desk.driver) c.as_slice.result.now (start c) (end c) c.take_puts-taken.new.desk.answers c.take_puts-taken.result (taken c) is)

@@ -1,5 +1,5 @@
--- What was read so far was consumed, and stays within the limit.
-use Rattle.std.proofs.Common.{◌≤◌, ◌-◌, length}
+-- What was read so far was consumed, and stays within the limit. No read has failed.
+use Rattle.std.proofs.Common.{◌≡◌, ◌≤◌, ◌-◌, length}
 use Rattle.std.specs.Io.KnownBytes.{Consumes}
 use Rattle.io_edge.proofs.whole.read_blocks.Given as goal
 
@@ -10,7 +10,7 @@ invariant-reading g l =
     record {
       whole : Consumes (left l.fn.source) (left l.source) l.all.items;
       short : length l.all.items ≤ 67108864;
-      later : faults l.fn.source ≤ faults l.source;
+      kept : faults l.source ≡ faults l.fn.source;
     }
 
 abbrev pub decreases-reading : goal.decreases-reading

@@ -1,5 +1,5 @@
 -- The next write lengthens the front that was written.
-use Rattle.std.proofs.Common.{◌++◌, take, arith}
+use Rattle.std.proofs.Common.{◌++◌, ◌∙◌, take, arith}
 use Rattle.std.proofs.KnownBytes.{Appends-trans}
 use Rattle.io_edge.proofs.Moving.{split_front}
 use Rattle.io_edge.proofs.whole.write_all.Goals as goal
@@ -14,5 +14,5 @@ writing-preserved g c =
         split_front _ p.0 c.writing.rest.now n _ p.1 c.in_ok-count.ensures.bound (omega arith),
         Appends-trans _ _ _ _ _ p.2 c.in_ok-count.ensures.bytes,
       );
-      later = omega (arith, c.in_ok-count.ensures.cause.later);
+      kept = c.in_ok-count.ensures.cause.kept ∙ c.writing.invariant.kept;
     }

@@ -1,5 +1,5 @@
--- What was written so far is the front of the bytes.
-use Rattle.std.proofs.Common.{◌≡◌, ◌≤◌, ◌++◌, List, ℕ, length}
+-- What was written so far is the front of the bytes. No write has failed.
+use Rattle.std.proofs.Common.{◌≡◌, ◌++◌, List, ℕ, length}
 use Rattle.std.specs.Io.KnownBytes.{Appends}
 use Rattle.io_edge.proofs.whole.write_all.Given as goal
 
@@ -9,7 +9,7 @@ invariant-writing g l =
     let faults = g.O.Sink.faults in
     record {
       part : (front : List ℕ) × (l.fn.bytes ≡ front ++ l.rest) × Appends (held l.fn.sink) (held l.sink) front;
-      later : faults l.fn.sink ≤ faults l.sink;
+      kept : faults l.sink ≡ faults l.fn.sink;
     }
 
 abbrev pub decreases-writing : goal.decreases-writing

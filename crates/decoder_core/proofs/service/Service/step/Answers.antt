@@ -1,30 +1,21 @@
-use Rattle.std.proofs.Common.{refl}
-use Rattle.decoder_core.specs.ServiceInside.{view_of}
-use Rattle.decoder_core.proofs.Steps.{steps_again, steps_reading}
-use Rattle.decoder_core.proofs.RunsOn.{HasRun-step}
+use Rattle.decoder_core.specs.ServiceInvariant.{view_of}
+use Rattle.decoder_core.proofs.Steps.{steps_again, steps_reading, steps_executed, steps_stopped}
 use Rattle.decoder_core.proofs.service.Service.step.Goals as goal
 
 pub returns-in-Some-clause-steps : goal.returns-in-Some-clause-steps
 returns-in-Some-clause-steps g c =
-    rw (c.step.ensures, ← c.self.view_is) (steps_again (view_of c.self.inside) c.args.shm.now c.args.driver.now g.met.S.Shm.grown_itself g.met.D.Driver.grown_itself c.in-Some.stop c.in-Some.is)
+    rw (c.into.ensures, ← c.self.view_is) (steps_again g.met.D.Driver.grown_itself (view_of c.self.inside) _ c.args.driver.now c.in-Some.stop c.in-Some.is)
 
 pub returns-in-None-clause-steps : goal.returns-in-None-clause-steps
-returns-in-None-clause-steps g c = steps_reading c.args.self.now c.args.shm.now c.args.driver.now g.met.D.Driver.grown_itself c.read.new.self c.read.new.shm c.read.result c.read.ensures.grows c.read.ensures.step
+returns-in-None-clause-steps g c = steps_reading g.met.D.Driver.grown_itself c.args.self.now _ c.args.driver.now c.read.new.self _ c.read.result c.read.ensures.step
+
+pub returns-in-None-clause-place : goal.returns-in-None-clause-place
+returns-in-None-clause-place g c = c.read.ensures.place (g.D.Driver.history c.args.driver.now)
 
 pub returns-in-Ok-clause-steps : goal.returns-in-Ok-clause-steps
 returns-in-Ok-clause-steps g c =
-    let e = c.in-Ok.ensures in
-    rw (← c.self.view_is) (record {
-      entries = e.entries;
-      served = e.served;
-      grows = e.grows;
-      step = record {
-        going = c.in_default.is;
-        command = c.in-Some-waiting.command;
-        waited = c.in-Some-waiting.is;
-        did = e.carried.0;
-        after = refl;
-        put = e.carried.1;
-        run = λ w d commands replies entered had. HasRun-step w d commands _ _ replies entered c.in-Some-waiting.command e.entries _ _ c.in-Ok.reply e.carried.0 e.served.state had;
-      };
-    })
+    rw (← c.self.view_is) (steps_executed (view_of c.self.inside) _ _ c.carry_out.new.tables c.in-Some-waiting.command c.in_default.is c.in-Some-waiting.is c.args.driver.now c.carry_out.new.driver c.in-Ok.reply c.in-Ok.ensures.carries)
+
+pub returns-in-Err-clause-steps : goal.returns-in-Err-clause-steps
+returns-in-Err-clause-steps g c =
+    rw (c.stopped.ensures.outcome, c.stopped.ensures.kept, ← c.self.view_is) (steps_stopped (view_of c.self.inside) _ _ c.carry_out.new.tables c.in-Some-waiting.command c.in_default.is c.in-Some-waiting.is c.args.driver.now c.carry_out.new.driver c.in-Err.stop c.in-Err.ensures.carries)

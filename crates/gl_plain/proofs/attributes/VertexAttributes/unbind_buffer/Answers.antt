@@ -3,7 +3,7 @@ use Rattle.std.proofs.Common.{◌≡◌, ◌<◌, ◌+◌, ◌++◌, ℕ, List, 
 use Rattle.std.specs.Prelude.{map}
 use Rattle.std.proofs.lemmas.List.{get_or_default}
 use Rattle.std.proofs.lemmas.List.Edits.{map_over_more}
-use Rattle.gl_plain.specs.AttribEffect.{unread}
+use Rattle.gl_plain.specs.subjects.Attributes.{outside}
 use Rattle.gl_plain.proofs.attributes.VertexAttributes.unbind_buffer.Goals as goal
 
 -- a write at the next place, of what a function gives for what is there
@@ -13,4 +13,4 @@ written f xs ys i d within there so = map_over_more f xs ys i (get_or ys i d) wi
 pub loop-index-preserved : goal.loop-index-preserved
 loop-index-preserved c =
     ap (slice_set c.loop-index.self.attributes c.loop-index.index) c.outside.ensures
-    ∙ written (unread c.args.object) c.args.self.now.attributes c.loop-index.self.attributes c.loop-index.index _ (omega arith) (omega arith) c.loop-index.invariant
+    ∙ written (outside c.args.object) c.args.self.now.attributes c.loop-index.self.attributes c.loop-index.index _ (omega arith) (omega arith) c.loop-index.invariant

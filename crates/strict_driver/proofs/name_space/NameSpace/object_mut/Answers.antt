@@ -3,7 +3,7 @@ use Rattle.std.proofs.Common.{◌≡◌, refl, sym, ◌∙◌, ap, inl, inr, Som
 use Rattle.std.specs.FinMap as map
 use Rattle.slab.specs.Slab as slab
 use Rattle.strict_driver.specs.declared.name_space.Standing.TheVariants.{Made}
-use Rattle.strict_driver.specs.Standings.{Space, object_in, names_of}
+use Rattle.strict_driver.specs.Standings.{Space, object_in, names_of, given_of}
 use Rattle.strict_driver.proofs.Placing.{get_object, in_no_place, in_place, objects-set, keeps-change, updates-with_value}
 use Rattle.strict_driver.proofs.name_space.NameSpace.object_mut.Goals as goal
 
@@ -32,9 +32,9 @@ returns-in-Some g c =
         λ w. (
             (λ j. record {
               names = names_of st;
-              objects = objects-set st st objects (slab.with_value objects place w) c.args.name w (keeps-change st objects (slab.with_value objects place w) c.self.inside.last c.self.invariant c.args.name place (Some w) there (updates-with_value objects place w full))
+              objects = objects-set st st objects (slab.with_value objects place w) c.args.name w (keeps-change st objects (slab.with_value objects place w) c.self.invariant c.args.name place (Some w) there (updates-with_value objects place w full))
                   (λ q apart. refl) (ap (object_in (slab.with_value objects place w)) there ∙ (updates-with_value objects place w full).changed) j;
-              last = c.self.inside.last;
+              given = given_of st;
             })
             ∙ ap (λ (s : Space g.row.T.Denot). record s { objects = map.insert s.objects c.args.name w }) c.self.view_is
             ) i,

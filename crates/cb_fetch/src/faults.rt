@@ -1,0 +1,67 @@
+//! The tests of a command: five of its header, and the sixth of the range that its words name.
+ghost use Rattle.std.specs.Prelude.{◌≡◌, ◌<◌, ◌^◌, IfSome, IfOk, IfErr, None, Some};
+ghost use Rattle.cb_format.specs.Layouts.{IsFitting, built_layout};
+ghost use Rattle.cb_format.specs.Ring as ring;
+ghost use Rattle.cb_fetch.specs.Steps.{IsFront, IsStart};
+
+use crate::stages::Start;
+use cb_format::{Header, Layout, Plan, known, layout};
+use cb_shm::Shm;
+use gl_plain::Malformed;
+
+/// The layout of a command, or none for a number that is not built.
+fn built(number: u32) -> Option<Layout>
+    ensures value { result ≡ built_layout number }
+    ensures fitting { IfSome result IsFitting }
+{
+    if known(number) { layout(number) } else { None }
+}
+
+/// Tests a header, with put below the entries. Where it passes it is parsed, and otherwise this says which test is the first that fails.
+#[tactic(auto, unfolding(cb_format::specs::Ring::first_fault))]
+pub fn start(entries: u32, put: u32, get: u32, word: u32) -> Result<Start, Malformed>
+    requires inside { get < entries }
+    requires put { put < entries }
+    ensures fair { IfOk result (λ start. (ring.first_fault entries put get word ≡ None) × IsStart entries get word start) }
+    ensures fault { IfErr result (λ kind. ring.first_fault entries put get word ≡ Some kind) }
+{
+    let header = Header::read(word);
+    if header.size == 0 {
+        return Err(Malformed::InvalidSize);
+    }
+    let ready = if get < put { put - get } else { entries - get };
+    if ready < header.size {
+        return Err(Malformed::OutOfBounds);
+    }
+    match built(header.number) {
+        None => Err(Malformed::UnknownCommand),
+        Some(layout) if layout.any_size || header.size == layout.words + 1 => {
+            Ok(Start { header, layout })
+        }
+        Some(_) => Err(Malformed::InvalidArguments),
+    }
+}
+
+/// The sixth test: the range that a command's words name lies in a region that is there, also if it is empty.
+pub fn range_fault<S: Shm>(shm: &S, plan: Plan) -> Option<Malformed>
+    ensures exact { result ≡ ring.range_fault (S.memory shm.now).sizes plan }
+    ensures front { result ≡ None → IsFront plan 0 }
+{
+    let (region, offset, count) = match plan {
+        Plan::Nothing => return None,
+        Plan::Read {
+            region,
+            offset,
+            count,
+        } => (region, offset, count),
+        Plan::Write {
+            region,
+            offset,
+            count,
+        } => (region, offset, count),
+    };
+    match shm.size(region) {
+        Some(size) if offset <= size && count <= size - offset => None,
+        _ => Some(Malformed::OutOfBounds),
+    }
+}

@@ -1,0 +1,41 @@
+-- What the family call shows once, for all commands on objects.
+use Rattle.std.proofs.Common.{◌≡◌, ◌∙◌, ℕ, false, List, Option, None, Some, Result, sym, ap, subst}
+use Rattle.gl_plain.specs.declared.calls.Reply.{Reply}
+use Rattle.gl_plain.specs.declared.commands.Command.{Command}
+use Rattle.gl_plain.specs.declared.commands.Command.TheVariants.{Object}
+use Rattle.gl_plain.specs.declared.commands.ObjectCommand.{ObjectCommand}
+use Rattle.gl_plain.specs.declared.stop.ExecStop.{ExecStop}
+use Rattle.gl_plain.specs.State.{WireState, DriverState}
+use Rattle.gl_plain.specs.driver.Answers.{told}
+use Rattle.gl_plain.specs.object.Arguments.{object_is_bad, IsObjectData}
+use Rattle.gl_plain.specs.object.Refusal.{object_command_refusal}
+use Rattle.gl_plain.specs.Wire.{calls_by}
+use Rattle.gl_plain.specs.Agreement.{AgreesIn}
+use Rattle.gl_laws.proofs.Commands.{may_go_on, keeps}
+use Rattle.gl_driver.specs.History.{History}
+use Rattle.gl_driver.specs.Performed.{Acts, IsLawful}
+use Rattle.gl_driver.proofs.Exits.{means, lawful}
+use Rattle.decode_objects.specs.Ready.{IsReady}
+
+-- the data is that of the command, however it is called
+pub given_is : (c c1 : ObjectCommand) (payload : List ℕ) (spelled : Option Command) → spelled ≡ Some (Object c1) → spelled ≡ Some (Object c) → IsObjectData c1 payload → IsObjectData c payload
+given_is c c1 payload spelled e f given = subst (λ (x : ObjectCommand). IsObjectData x payload) (cc) given
+
+module _ (c : ObjectCommand) (payload : List ℕ) {before : WireState → WireState} where
+  -- what was tested, and the law that its driver calls may be made
+  pub ready : (d : DriverState) (agrees : AgreesIn before d) → object_is_bad (before agrees.others).es c ≡ false → object_command_refusal (before agrees.others).es c ≡ None → IsObjectData c payload → IsReady c payload before d
+  ready d agrees fair taken given =
+      let w : WireState = before agrees.others in
+      record {
+        others = agrees.others;
+        fair = fair;
+        taken = taken;
+        given = given;
+        may = λ o es next more legal h. may_go_on w d agrees.agrees (Object c) payload fair given o es next more legal (h ∙ sym (ap (λ r. calls_by r w (Object c) payload (told es o)) taken));
+      }
+
+  -- the command that is spelled keeps to the laws
+  pub keeps_to_laws : {after : WireState → WireState} {D : Type 0} {history : D → History} {grown : D → D → Type 0} {d d2 : D} (result : Result Reply ExecStop) (spelled : Option Command) → spelled ≡ Some (Object c)
+      → Acts history grown (means (Object c) payload) before after d d2 result → IsLawful history grown spelled payload before after d d2 result
+  keeps_to_laws {after} {history = history} {grown} {d} {d2} result spelled is acts =
+      subst (λ (x : Option Command). IsLawful history grown x payload before after d d2 result) (sym is) (lawful (Object c) payload (λ w e a. keeps w e a (Object c) payload) result acts)

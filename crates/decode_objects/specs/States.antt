@@ -1,0 +1,30 @@
+-- The state of the service with the parts that a command on objects is lent, and what a command means there.
+use Rattle.std.specs.Prelude.{ℕ, List}
+use Rattle.gl_plain.specs.declared.commands.ObjectCommand.{ObjectCommand}
+use Rattle.gl_plain.specs.declared.commands.Command.TheVariants.{Object}
+use Rattle.gl_plain.specs.declared.errors.Errors.{Errors}
+use Rattle.gl_plain.specs.State.{WireState}
+use Rattle.gl_plain.specs.Meaning.{Meaning, own_meaning}
+use Rattle.buffer_mgr.specs.declared.buffers.Buffers.{Buffers}
+use Rattle.buffer_mgr.specs.Tables.{tables}
+use Rattle.attrib_mgr.specs.declared.attribs.Attribs.{Attribs}
+
+-- the state with these buffers
+abbrev pub buffers_in : Buffers → WireState → WireState
+buffers_in b w = record w { es = record w.es { buffers = tables b } }
+
+-- the state with these vertex attributes
+abbrev pub attribs_in : Attribs → WireState → WireState
+attribs_in a w = record w { es = record w.es { attribs = a.attributes } }
+
+-- the state with these codes recorded
+abbrev pub errors_in : Errors → WireState → WireState
+errors_in e w = record w { es = record w.es { errors = e } }
+
+-- the state with all three
+abbrev pub objects_in : Buffers → Attribs → Errors → WireState → WireState
+objects_in b a e w = record w { es = record w.es { buffers = tables b; attribs = a.attributes; errors = e } }
+
+-- what is left of a command, once it was found to be neither malformed nor refused
+abbrev pub own_part : ObjectCommand → List ℕ → WireState → Meaning WireState
+own_part c payload w = own_meaning w (Object c) payload

@@ -1,0 +1,81 @@
+//! The argument rules of the commands on objects.
+ghost use Rattle.std.specs.Prelude.{◌≡◌};
+ghost use Rattle.buffer_mgr.specs.Tables.{tables};
+ghost use Rattle.gl_plain.specs.State.{EsState};
+ghost use Rattle.gl_plain.specs.subjects.Buffers as plain;
+ghost use Rattle.gl_plain.specs.subjects.Data as words_of;
+ghost use Rattle.gl_plain.specs.object.Arguments.{object_is_bad};
+
+use buffer_mgr::Buffers;
+use gl_base::limits::DATA_LIMIT;
+use gl_base::{is_ordinary, is_reserved};
+use gl_plain::{DataWords, ObjectCommand};
+
+/// Whether GenBuffers may not give this id: it is none that may be given, or it is in use.
+fn gen_buffers_is_bad(buffers: &Buffers, id: u32) -> bool
+    ensures { result ≡ plain.gen_buffers_is_bad (tables buffers.now).names id }
+{
+    !(is_ordinary(id) || is_reserved(id)) || buffers.name(id).is_some()
+}
+
+/// Whether BindBuffer may not name this id.
+fn bind_buffer_is_bad(id: u32) -> bool
+    ensures { result ≡ plain.bind_buffer_is_bad id }
+{
+    !(id == 0 || is_ordinary(id) || is_reserved(id))
+}
+
+fn has_no_data(words: DataWords) -> bool
+    ensures { result ≡ words_of.has_no_data words }
+{
+    words.source == 0 && words.count == 0 && words.a == 0 && words.b == 0
+}
+
+fn has_needed_data(words: DataWords, needed: u32) -> bool
+    ensures { result ≡ words_of.has_needed_data words needed }
+{
+    words.source == 1 && words.count == needed
+}
+
+/// How many bytes BufferData and BufferSubData need: none for a size that is refused.
+fn data_needed(size: i32) -> u32
+    ensures { result ≡ words_of.data_needed size }
+{
+    if size < 0 || size as u32 > DATA_LIMIT {
+        0
+    } else {
+        size as u32
+    }
+}
+
+/// Whether the words of BufferData are neither those of no data nor those of as many bytes as it needs.
+fn buffer_data_is_bad(size: i32, words: DataWords) -> bool
+    ensures { result ≡ plain.buffer_data_is_bad size words }
+{
+    !(has_no_data(words) || has_needed_data(words, data_needed(size)))
+}
+
+/// Whether the words of BufferSubData are neither those of as many bytes as it needs nor, where it needs none, those of no data.
+fn buffer_sub_data_is_bad(size: i32, words: DataWords) -> bool
+    ensures { result ≡ plain.buffer_sub_data_is_bad size words }
+{
+    let needed = data_needed(size);
+    !((has_no_data(words) && needed == 0) || has_needed_data(words, needed))
+}
+
+/// Whether an argument rule of the command is broken.
+pub fn is_malformed(buffers: &Buffers, command: ObjectCommand) -> bool
+    ensures { (s : EsState) → result ≡ object_is_bad (record s { buffers = tables buffers.now }) command }
+{
+    match command {
+        ObjectCommand::GenBuffers { id } => gen_buffers_is_bad(buffers, id),
+        ObjectCommand::BindBuffer { target: _, id } => bind_buffer_is_bad(id),
+        ObjectCommand::BufferData { size, words, .. } => buffer_data_is_bad(size, words),
+        ObjectCommand::BufferSubData { size, words, .. } => buffer_sub_data_is_bad(size, words),
+        ObjectCommand::DeleteBuffers { .. }
+        | ObjectCommand::VertexAttrib4f { .. }
+        | ObjectCommand::VertexAttribPointer { .. }
+        | ObjectCommand::EnableVertexAttribArray { .. }
+        | ObjectCommand::DisableVertexAttribArray { .. } => false,
+    }
+}

@@ -1,0 +1,40 @@
+//! The limits of this implementation.
+
+/// The most bytes that a buffer, a bucket, a region or an image may have.
+pub const DATA_LIMIT: u32 = 67_108_864;
+
+/// The most ordinary names that may be in use in one name space.
+pub const NAME_LIMIT: u32 = 65_536;
+
+/// The last name that Gen and Create may give. The first is 1.
+pub const LAST_ORDINARY_NAME: u32 = 0xFFFF_FEFF;
+
+/// The first of the buffer names that are kept for client arrays.
+pub const FIRST_RESERVED_NAME: u32 = 0xFFFF_FF00;
+
+/// The last of the buffer names that are kept for client arrays.
+pub const LAST_RESERVED_NAME: u32 = 0xFFFF_FF10;
+
+/// The index of the last vertex attribute (MAX_VERTEX_ATTRIBS is 16).
+pub const LAST_ATTRIBUTE: u32 = 15;
+
+/// The most bytes that one copy of shared memory takes.
+pub const COPY_LIMIT: u32 = 4096;
+
+/// The fewest entries of a ring.
+pub const LEAST_ENTRIES: u32 = 2;
+
+/// The most entries of a ring.
+pub const MOST_ENTRIES: u32 = 1_048_576;
+
+/// How many entries a ring has where an input does not say it.
+pub const DEFAULT_ENTRIES: u32 = 4096;
+
+/// The greatest number of a region. The ring is region 0.
+pub const LAST_REGION: u32 = 255;
+
+/// The most bytes that the ring and the regions of a script have together.
+pub const TOTAL_LIMIT: u64 = 268_435_456;
+
+/// The width and the height of the default framebuffer where an input does not say them.
+pub const DEFAULT_SURFACE: (u32, u32) = (64, 64);

@@ -1,0 +1,2 @@
+-- The definitions that laws are stated with.
+pub mod Laws

@@ -1,0 +1,47 @@
+-- The name spaces, and where each has its names, the numbers of its new objects, and its driver calls. A further name space is a line in
+-- each definition.
+use Rattle.std.specs.Prelude.{ℕ}
+use Rattle.std.specs.Ordering.{nat_cmp}
+use Rattle.std.specs.FinSet as set
+use Rattle.gl_plain.specs.declared.driver_calls.DriverCall.{DriverCall}
+use Rattle.gl_plain.specs.declared.driver_calls.DriverCall.TheVariants.{Object}
+use Rattle.gl_plain.specs.declared.driver_calls.ObjectDriver.TheVariants as calls
+use Rattle.gl_plain.specs.subjects.Names.{Names, named}
+use Rattle.gl_plain.specs.Oracle.{Oracle}
+use Rattle.gl_plain.specs.State.{EsState, DriverTables, NamesGiven}
+
+-- a name space
+pub data Space : Type 0 where
+  Buffers : Space
+
+-- its names in use
+abbrev pub names_in : Space → EsState → Names
+names_in Buffers s = s.buffers.names
+
+-- the state with other names in it
+abbrev pub with_names : Space → Names → EsState → EsState
+with_names Buffers names s = record s { buffers = record s.buffers { names = names } }
+
+-- a name comes into use with this number
+abbrev pub with_name : Space → ℕ → ℕ → EsState → EsState
+with_name space id number s = with_names space (named (names_in space s) id number) s
+
+-- the numbers that its new objects get
+abbrev pub numbers_in : Space → Oracle → ℕ → ℕ
+numbers_in Buffers o = o.buffers
+
+-- the answers with other numbers for it
+abbrev pub with_numbers : Space → (ℕ → ℕ) → Oracle → Oracle
+with_numbers Buffers numbers o = record o { buffers = numbers }
+
+-- the driver call for a new name
+abbrev pub gen_call : Space → DriverCall
+gen_call Buffers = Object calls.GenBuffer
+
+-- the names that the driver ever gave
+abbrev pub given_in : Space → NamesGiven → set.FinSet nat_cmp
+given_in Buffers given = given.buffers
+
+-- a new name of the driver's is live, and counts as given
+abbrev pub with_given : Space → ℕ → DriverTables → DriverTables
+with_given Buffers n t = record t { buffers = record t.buffers { names = named t.buffers.names n n }; given = record t.given { buffers = set.insert t.given.buffers n } }

@@ -1,0 +1,59 @@
+-- The state tables of OpenGL ES (chapter 6), part by part, of the service, and of a driver.
+use Rattle.std.specs.Prelude.{ℕ}
+use Rattle.std.specs.Ordering.{nat_cmp}
+use Rattle.std.specs.FinSet as set
+use Rattle.gl_plain.specs.declared.attributes.VertexAttributes.{VertexAttributes}
+use Rattle.gl_plain.specs.declared.errors.Errors.{Errors}
+use Rattle.gl_plain.specs.Errors.{no_errors}
+use Rattle.gl_plain.specs.subjects.Buffers.{BufferTables, no_buffers}
+use Rattle.gl_plain.specs.subjects.Attributes.{no_arrays}
+use Rattle.gl_plain.specs.subjects.Images.{Contents, Covers, no_covers, opening_contents}
+
+-- the width and the height of the default framebuffer
+abbrev pub Surface : Type 0
+Surface = ℕ × ℕ
+
+-- the state of OpenGL ES, without pixels
+pub record EsState : Type 0 where
+  pub surface : Surface
+  pub buffers : BufferTables
+  pub attribs : VertexAttributes
+  pub errors : Errors
+
+-- the state of the service: that of OpenGL ES, the written rectangles, and the last token
+pub record WireState : Type 0 where
+  pub es : EsState
+  pub covers : Covers
+  pub token : ℕ
+
+-- the names that a driver ever gave, in each name space
+pub record NamesGiven : Type 0 where
+  pub buffers : set.FinSet nat_cmp
+
+-- the tables of a driver, which keeps no errors
+pub record DriverTables : Type 0 where
+  pub surface : Surface
+  pub buffers : BufferTables
+  pub attribs : VertexAttributes
+  pub given : NamesGiven
+
+-- the state of a driver: its tables, and the contents of all images
+pub record DriverState : Type 0 where
+  pub tables : DriverTables
+  pub contents : Contents
+
+-- the opening state, for a default framebuffer of these sides (tables 6.2 to 6.19)
+abbrev pub opening : Surface → EsState
+opening surface = record { surface = surface; buffers = no_buffers; attribs = no_arrays; errors = no_errors }
+
+-- the opening state of the service
+abbrev pub opening_wire : Surface → WireState
+opening_wire surface = record { es = opening surface; covers = no_covers; token = 0 }
+
+-- the opening tables of a driver
+abbrev pub opening_tables : Surface → DriverTables
+opening_tables surface = record { surface = surface; buffers = no_buffers; attribs = no_arrays; given = record { buffers = set.empty } }
+
+-- the opening state of a driver
+abbrev pub opening_driver : Surface → DriverState
+opening_driver surface = record { tables = opening_tables surface; contents = opening_contents }

@@ -1,0 +1,41 @@
+-- Words of commands as arguments, and signed numbers.
+use Rattle.std.specs.Prelude.{ℕ, ℤ, pos, negsuc, Bool, true, false, not, ◌+◌, ◌==◌, List, slice_index}
+use Rattle.std.specs.Int.{cast_signed, w32}
+use Rattle.gl_base.specs.declared.gl_enum.GlEnum.{GlEnum}
+use Rattle.gl_base.specs.declared.float_bits.FloatBits.{FloatBits}
+use Rattle.gl_plain.specs.declared.commands.DataWords.{DataWords}
+use Rattle.gl_plain.specs.declared.commands.ArrayWords.{ArrayWords}
+
+-- the number is below 0
+abbrev pub is_negative : ℤ → Bool
+is_negative (pos n) = false
+is_negative (negsuc n) = true
+
+-- the number, or 0 for a negative one
+abbrev pub natural : ℤ → ℕ
+natural (pos n) = n
+natural (negsuc n) = 0
+
+-- a word as an enum
+abbrev pub enum_at : List ℕ → ℕ → GlEnum
+enum_at words i = record { 0 = slice_index words i }
+
+-- a word as a signed number, in two's complement
+abbrev pub signed_at : List ℕ → ℕ → ℤ
+signed_at words i = cast_signed w32 (slice_index words i)
+
+-- a word as a float, which is given by its pattern
+abbrev pub float_at : List ℕ → ℕ → FloatBits
+float_at words i = record { 0 = slice_index words i }
+
+-- a word as a boolean: true where it is not 0
+abbrev pub bool_at : List ℕ → ℕ → Bool
+bool_at words i = not (slice_index words i == 0)
+
+-- the four words of a command's data, from a place on
+abbrev pub data_at : List ℕ → ℕ → DataWords
+data_at words i = record { source = slice_index words i; count = slice_index words (i + 1); a = slice_index words (i + 2); b = slice_index words (i + 3) }
+
+-- the words of VertexAttribPointer behind its index
+abbrev pub array_at : List ℕ → ArrayWords
+array_at words = record { size = signed_at words 1; kind = enum_at words 2; normalized = bool_at words 3; stride = signed_at words 4; offset = slice_index words 5 }

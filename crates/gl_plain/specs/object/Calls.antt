@@ -1,0 +1,37 @@
+-- The driver calls of the commands on objects, where they are not refused, with driver names.
+use Rattle.std.specs.Prelude.{ℕ, true, false, ◌==◌, if◌then◌else◌, List, [], ◌∷◌, Option, None, Some}
+use Rattle.std.specs.FinMap as map
+use Rattle.gl_base.specs.declared.gl_enum.GlEnum.{GlEnum}
+use Rattle.gl_plain.specs.declared.objects.Name.{Name}
+use Rattle.gl_plain.specs.declared.commands.ObjectCommand.{ObjectCommand}
+use Rattle.gl_plain.specs.declared.commands.ObjectCommand.TheVariants.{GenBuffers, BindBuffer, BufferData, BufferSubData, DeleteBuffers, VertexAttrib4f, VertexAttribPointer, EnableVertexAttribArray, DisableVertexAttribArray}
+use Rattle.gl_plain.specs.declared.driver_calls.DriverCall.{DriverCall}
+use Rattle.gl_plain.specs.declared.driver_calls.DriverCall.TheVariants.{Object}
+use Rattle.gl_plain.specs.declared.driver_calls.ObjectDriver.TheVariants as calls
+use Rattle.gl_plain.specs.subjects.Data.{payload_of, bytes_of}
+use Rattle.gl_plain.specs.subjects.Buffers.{delete_buffers_calls}
+use Rattle.gl_plain.specs.Oracle.{Oracle, first}
+use Rattle.gl_plain.specs.State.{EsState}
+use Rattle.gl_plain.specs.Spaces.{Space, Buffers, numbers_in, gen_call}
+
+-- a bind, by what the space has of the name: that of an unused one makes the call for a new name first, unless it is 0
+abbrev pub bind_calls : Space → (ℕ → DriverCall) → ℕ → Oracle → Option Name → List DriverCall
+bind_calls space bind id o (Some x) = bind x.number ∷ []
+bind_calls space bind id o None =
+    if id == 0 then bind 0 ∷ [] else gen_call space ∷ bind (first (numbers_in space o)) ∷ []
+
+-- the call that binds a buffer
+abbrev pub bind_buffer_call : GlEnum → ℕ → DriverCall
+bind_buffer_call target name = Object (calls.BindBuffer target name)
+
+-- the driver calls of a command's name
+abbrev pub own_object_calls : EsState → ObjectCommand → List ℕ → Oracle → List DriverCall
+own_object_calls s (GenBuffers id) payload o = gen_call Buffers ∷ []
+own_object_calls s (BindBuffer target id) payload o = bind_calls Buffers (bind_buffer_call target) id o (map.get s.buffers.names id)
+own_object_calls s (BufferData target size usage words) payload o = Object (calls.BufferData target (bytes_of (payload_of words payload) size) usage) ∷ []
+own_object_calls s (BufferSubData target offset size words) payload o = Object (calls.BufferSubData target offset payload) ∷ []
+own_object_calls s (DeleteBuffers id) payload o = delete_buffers_calls (map.get s.buffers.names id)
+own_object_calls s (VertexAttrib4f index x y z w) payload o = Object (calls.VertexAttrib4 index (x.0 ∷ y.0 ∷ z.0 ∷ w.0 ∷ [])) ∷ []
+own_object_calls s (VertexAttribPointer index a) payload o = Object (calls.VertexAttribPointer index a.size a.kind a.normalized a.stride a.offset) ∷ []
+own_object_calls s (EnableVertexAttribArray index) payload o = Object (calls.SetArray index true) ∷ []
+own_object_calls s (DisableVertexAttribArray index) payload o = Object (calls.SetArray index false) ∷ []

@@ -1,0 +1,3 @@
+-- The commands that ask for state, a line each.
+pub mod Commands
+pub mod Step

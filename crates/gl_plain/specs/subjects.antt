@@ -1,0 +1,6 @@
+-- The kinds of state, each with its tables and with what each call does to them.
+pub mod Names
+pub mod Data
+pub mod Buffers
+pub mod Attributes
+pub mod Images

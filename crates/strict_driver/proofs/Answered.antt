@@ -1,0 +1,39 @@
+-- Journals whose answers are those of an oracle.
+use Rattle.std.proofs.Common.{◌≡◌, List, [], ◌∷◌, ◌++◌, refl, sym, ◌∙◌, ap}
+use Rattle.gl_plain.specs.declared.driver_calls.DriverCall.{DriverCall}
+use Rattle.gl_plain.specs.declared.driver_calls.DriverCall.TheVariants.{Object}
+use Rattle.gl_plain.specs.declared.driver_calls.DriverEntry.{DriverEntry}
+use Rattle.gl_plain.specs.declared.driver_calls.ObjectDriver.{ObjectDriver}
+use Rattle.gl_plain.specs.declared.driver_calls.ObjectDriver.TheVariants.{GenBuffer, BufferData}
+use Rattle.gl_plain.specs.declared.driver_calls.Stored.{Stored}
+use Rattle.gl_plain.specs.declared.driver_calls.Stored.TheVariants as room
+use Rattle.gl_plain.specs.Oracle.{Oracle, first, behind, led_by}
+use Rattle.gl_plain.specs.driver.Answers.{told, told_call, told_object, told_stored, stored_answer, object_answer, answer_to, behind_object, behind_call, behind_entries, AreAnsweredBy}
+use Rattle.gl_plain.proofs.Journals.{led_by-behind}
+
+told_room : (s : Stored) (o : Oracle) → told_stored (stored_answer s) o ≡ record o { stored = led_by s o.stored }
+told_room room.Done o = refl
+told_room room.Oom o = refl
+
+-- what an oracle answers tells the oracle, before those answers that are left
+told_behind_object : (call : ObjectDriver) (o : Oracle) → told_object call (object_answer o call) (behind_object call o) ≡ o
+told_behind_object GenBuffer o = λ i. record { buffers = λ k. led_by-behind o.buffers k i; stored = o.stored }
+told_behind_object (BufferData target bytes usage) o =
+    told_room (first o.stored) (behind_object (BufferData target bytes usage) o) ∙ (λ i. record { buffers = o.buffers; stored = λ k. led_by-behind o.stored k i })
+told_behind_object call o = refl
+
+pub told_behind_call : (call : DriverCall) (o : Oracle) → told_call call (answer_to o call) (behind_call call o) ≡ o
+told_behind_call (Object call) o = told_behind_object call o
+
+pub told_behind : (o : Oracle) (es : List DriverEntry) → AreAnsweredBy o es → told es (behind_entries es o) ≡ o
+told_behind o [] h = refl
+told_behind o (e ∷ es) h =
+    ap (told_call e.call e.answer) (told_behind (behind_call e.call o) es h.1) ∙ ap (λ a. told_call e.call a (behind_call e.call o)) h.0 ∙ told_behind_call e.call o
+
+pub behind_entries-append : (es fs : List DriverEntry) (o : Oracle) → behind_entries (es ++ fs) o ≡ behind_entries fs (behind_entries es o)
+behind_entries-append [] fs o = refl
+behind_entries-append (e ∷ es) fs o = behind_entries-append es fs (behind_call e.call o)
+
+pub AreAnsweredBy-append : (o : Oracle) (es fs : List DriverEntry) → AreAnsweredBy o es → AreAnsweredBy (behind_entries es o) fs → AreAnsweredBy o (es ++ fs)
+AreAnsweredBy-append o [] fs a b = b
+AreAnsweredBy-append o (e ∷ es) fs a b = (a.0, AreAnsweredBy-append (behind_call e.call o) es fs a.1 b)
