@@ -142,8 +142,7 @@ module _ (script : Script) (a b : Side StrictView) (puts : List ℕ) (start : Is
         ap (wire_run (opening_wire script.surface) (seen script).commands (seen script).stop) (sym told_is) ∙ run (answers_left b.driver) in
         let legal : IsLegal (opening_driver script.surface) entries = rw (← entered, ← same_surface) end.legal in
         let records : records_in (opening_driver script.surface) entries ≡ run_records (opening_wire script.surface) (read_contents (opening_driver script.surface).contents) (seen script).commands (told entries (answers_left b.driver)) =
-        records_of_run (seen script).commands (opening_wire script.surface) (opening_driver script.surface) (answers_left b.driver) entries (opening_agrees script.surface) legal (parts (answers_left b.driver)) in
-        (
+        records_of_run (seen script).commands (opening_wire script.surface) (opening_driver script.surface) (answers_left b.driver) entries (opening_agrees script.surface) legal (parts (answers_left b.driver)) in (
           ap (λ (r : Run). r.stop) run_is,
           record {
             replies = sym (ap (λ (r : Run). r.replies) run_is);
@@ -206,4 +205,3 @@ module _ (script : Script) (a b : Side StrictView) (puts : List ℕ) (start : Is
 
     pub short_holds : IsErrOf r stops.NoMemory → HoldsFront false script (record { driver = b.driver; answers = answers })
     short_holds is = holds_cut false (subst (TookPuts a [] puts b answers) is took)
-
