@@ -1,5 +1,5 @@
 -- Layouts of commands that are built, and what the tests of a header leave.
-use Rattle.std.proofs.Common.{◌≡◌, ℕ, Bool, ◌+◌, ◌==◌, ◌<◌, ◌≤◌, ◌⊎◌, inl, inr, true, false, cond, nat_lt, nat_le, [], refl, ap, Option, None, Some, IfSome, arith, subst}
+use Rattle.std.proofs.Common.{◌≡◌, ◌∙◌, sym, ℕ, Bool, ◌+◌, ◌==◌, ◌<◌, ◌≤◌, ◌⊎◌, inl, inr, true, false, cond, nat_lt, nat_le, [], refl, ap, Option, None, Some, IfSome, arith, subst}
 use Rattle.std.proofs.lemmas.Bool.Decides.{nat_tests}
 use Rattle.gl_plain.specs.declared.commands.Malformed.{Malformed}
 use Rattle.gl_plain.specs.declared.commands.Malformed.TheVariants.{OutOfBounds, InvalidSize, InvalidArguments}
@@ -97,14 +97,25 @@ bare_by None (Some at) most words e p r = absurd (omega (arith, r))
 bare_in : (number : ℕ) (l : Layout) → built_layout number ≡ Some l → l.words ≡ 0 → plan_in (layout_of number) [] ≡ plan.Nothing
 bare_in number l e none = rw (laid_out number l e) (bare_by l.payload_at l.result_at l.result_words l.words none (fits number l e).payload_ends (fits number l e).result_ends)
 
-not_five : (number : ℕ) (l : Layout) → built_layout number ≡ Some l → (number == 5) ≡ true → ⊥
-not_five number l e five =
+words_in_layout : Option Layout → ℕ
+words_in_layout None = 0
+words_in_layout (Some l) = l.words
+
+-- GetBucketData has five words
+five_words : words_in_layout (layout_of 5) ≡ 5
+unfolding layout_of words_in_layout
+five_words = refl
+
+not_five : (number : ℕ) (l : Layout) → built_layout number ≡ Some l → l.words ≡ 0 → (number == 5) ≡ true → ⊥
+unfolding words_in_layout
+not_five number l e none five =
     let is : number ≡ 5 = grind (arith, nat_tests) in
-    let none : built_layout 5 ≡ Some l = subst (λ n. built_layout n ≡ Some l) is e in
-    cc
+    let there : layout_of 5 ≡ Some l = subst (λ n. layout_of n ≡ Some l) is (laid_out number l e) in
+    let words : 5 ≡ l.words = sym five_words ∙ ap words_in_layout there in
+    absurd (omega arith)
 
 pub bare_plan : (number : ℕ) (l : Layout) → built_layout number ≡ Some l → l.words ≡ 0 → plan_of number [] ≡ plan.Nothing
-bare_plan number l e none = chosen (number == 5) (not_five number l e) where
+bare_plan number l e none = chosen (number == 5) (not_five number l e none) where
   chosen : (b : Bool) → (b ≡ true → ⊥) → cond b (bucket_plan []) (plan_in (layout_of number) []) ≡ plan.Nothing
   chosen true apart = absurd (apart refl)
   chosen false apart = bare_in number l e none

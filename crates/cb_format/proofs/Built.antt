@@ -13,11 +13,11 @@ there [] i h = absurd (omega arith)
 there (l ∷ ls) zero h = refl
 there (l ∷ ls) (suc i) h = there ls i (omega arith)
 
--- a command that is built is one of the first two, or one of OpenGL ES
-known_range : (n : ℕ) → is_known n ≡ true → (n < 2) ⊎ ((256 ≤ n) × (n - 256 < 89))
+-- a command that is built is one of the buffer, or one of OpenGL ES
+known_range : (n : ℕ) → is_known n ≡ true → (n < 6) ⊎ ((256 ≤ n) × (n - 256 < 89))
 known_range n h = grind (arith, nat_tests)
 
-in_range : (n : ℕ) → (n < 2) ⊎ ((256 ≤ n) × (n - 256 < 89)) → IsSome (layout_of n)
+in_range : (n : ℕ) → (n < 6) ⊎ ((256 ≤ n) × (n - 256 < 89)) → IsSome (layout_of n)
 in_range n (inl below) = subst (λ o. IsSome o) (sym (layout_of_buffer n (omega arith))) (there BUFFER_LAYOUTS n (omega arith))
 in_range n (inr within) = subst (λ o. IsSome o) (sym (layout_of_gl n (n - 256) (omega arith))) (there GL_LAYOUTS (n - 256) (omega arith))
 

@@ -5,11 +5,8 @@ ghost use Rattle.gl_plain.specs.Commands.{is_known};
 ghost use Rattle.cb_format.specs.Layouts.{IsFitting, layout_of};
 
 use crate::layouts::Layout;
-use gl_plain::numbers::{
-    ACTIVE_TEXTURE, BIND_BUFFER, BUFFER_DATA, BUFFER_SUB_DATA, DELETE_BUFFERS,
-    DISABLE_VERTEX_ATTRIB_ARRAY, ENABLE_VERTEX_ATTRIB_ARRAY, GEN_BUFFERS, GET_ERROR, NOOP,
-    SET_TOKEN, VERTEX_ATTRIB_4F, VERTEX_ATTRIB_POINTER,
-};
+use gl_plain::is_known;
+use gl_plain::numbers::ACTIVE_TEXTURE;
 
 /// The number of the first command of OpenGL ES.
 const FIRST_OF_GL: u32 = ACTIVE_TEXTURE;
@@ -183,18 +180,5 @@ pub fn known(number: u32) -> bool
     ensures value { result ≡ is_known number }
     ensures laid_out { OnTrue result (IsSome (layout_of number)) }
 {
-    matches!(
-        number,
-        NOOP | SET_TOKEN
-            | GEN_BUFFERS
-            | BIND_BUFFER
-            | BUFFER_DATA
-            | BUFFER_SUB_DATA
-            | DELETE_BUFFERS
-            | VERTEX_ATTRIB_4F
-            | VERTEX_ATTRIB_POINTER
-            | ENABLE_VERTEX_ATTRIB_ARRAY
-            | DISABLE_VERTEX_ATTRIB_ARRAY
-            | GET_ERROR
-    )
+    is_known(number)
 }

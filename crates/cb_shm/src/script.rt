@@ -14,6 +14,6 @@ pub struct Script {
     pub opening: PatchList,
     pub timed: TimedList,
     pub puts: Words,
-    /// Which questions for room the driver denies, and after how many calls it is lost.
+    /// What compilations, links and validations say, which questions for room the driver denies, and after how many calls it is lost.
     pub answers: Answers,
 }

@@ -17,13 +17,19 @@ use Rattle.gl_driver.specs.Performed.{Acts, IsLawful}
 use Rattle.gl_driver.proofs.Exits.{means, lawful}
 use Rattle.decode_objects.specs.Ready.{IsReady}
 
+-- what keeps to the laws does so however the command is called
+pub lawful_of : (c : ObjectCommand) (x : Command) (spelled : Option Command) → spelled ≡ Some (Object c) → spelled ≡ Some x → {D : Type 0} {history : D → History} {grown : D → D → Type 0} (payload : List ℕ) {before after : WireState → WireState} {d d2 : D} (result : Result Reply ExecStop)
+    → IsLawful history grown (Object c) payload before after d d2 result → IsLawful history grown x payload before after d d2 result
+lawful_of c x spelled is e {history = history} {grown} payload {before} {after} {d} {d2} result keeping =
+    let same : Object c ≡ x = cc in subst (λ (y : Command). IsLawful history grown y payload before after d d2 result) same keeping
+
 -- the data is that of the command, however it is called
 pub given_is : (c c1 : ObjectCommand) (payload : List ℕ) (spelled : Option Command) → spelled ≡ Some (Object c1) → spelled ≡ Some (Object c) → IsObjectData c1 payload → IsObjectData c payload
 given_is c c1 payload spelled e f given = subst (λ (x : ObjectCommand). IsObjectData x payload) (cc) given
 
 module _ (c : ObjectCommand) (payload : List ℕ) {before : WireState → WireState} where
   -- what was tested, and the law that its driver calls may be made
-  pub ready : (d : DriverState) (agrees : AgreesIn before d) → object_is_bad (before agrees.others).es c ≡ false → object_command_refusal (before agrees.others).es c ≡ None → IsObjectData c payload → IsReady c payload before d
+  pub ready : (d : DriverState) (agrees : AgreesIn before d) → object_is_bad (before agrees.others).es c ≡ false → object_command_refusal (before agrees.others).es c payload ≡ None → IsObjectData c payload → IsReady c payload before d
   ready d agrees fair taken given =
       let w : WireState = before agrees.others in
       record {
@@ -34,8 +40,7 @@ module _ (c : ObjectCommand) (payload : List ℕ) {before : WireState → WireSt
         may = λ o es next more legal h. may_go_on w d agrees.agrees (Object c) payload fair given o es next more legal (h ∙ sym (ap (λ r. calls_by r w (Object c) payload (told es o)) taken));
       }
 
-  -- the command that is spelled keeps to the laws
-  pub keeps_to_laws : {after : WireState → WireState} {D : Type 0} {history : D → History} {grown : D → D → Type 0} {d d2 : D} (result : Result Reply ExecStop) (spelled : Option Command) → spelled ≡ Some (Object c)
-      → Acts history grown (means (Object c) payload) before after d d2 result → IsLawful history grown spelled payload before after d d2 result
-  keeps_to_laws {after} {history = history} {grown} {d} {d2} result spelled is acts =
-      subst (λ (x : Option Command). IsLawful history grown x payload before after d d2 result) (sym is) (lawful (Object c) payload (λ w e a. keeps w e a (Object c) payload) result acts)
+  -- the command keeps to the laws
+  pub keeps_to_laws : {after : WireState → WireState} {D : Type 0} {history : D → History} {grown : D → D → Type 0} {d d2 : D} (result : Result Reply ExecStop)
+      → Acts history grown (means (Object c) payload) before after d d2 result → IsLawful history grown (Object c) payload before after d d2 result
+  keeps_to_laws result acts = lawful (Object c) payload (λ w e a. keeps w e a (Object c) payload) result acts

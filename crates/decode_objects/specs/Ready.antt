@@ -21,6 +21,6 @@ MayMake d calls = (o : Oracle) (es : List DriverEntry) (next : DriverCall) (more
 pub record IsReady (c : ObjectCommand) (payload : List ℕ) (before : WireState → WireState) (d : DriverState) : Type 0 where
   pub others : WireState
   pub fair : object_is_bad (before others).es c ≡ false
-  pub taken : object_command_refusal (before others).es c ≡ None
+  pub taken : object_command_refusal (before others).es c payload ≡ None
   pub given : IsObjectData c payload
   pub may : MayMake d (own_object_calls (before others).es c payload)

@@ -8,6 +8,8 @@ use Rattle.gl_plain.specs.Meaning.{Meaning, own_meaning}
 use Rattle.buffer_mgr.specs.declared.buffers.Buffers.{Buffers}
 use Rattle.buffer_mgr.specs.Tables.{tables}
 use Rattle.attrib_mgr.specs.declared.attribs.Attribs.{Attribs}
+use Rattle.program_mgr.specs.declared.programs.Programs.{Programs}
+use Rattle.program_mgr.specs.Tables as programs_as
 
 -- the state with these buffers
 abbrev pub buffers_in : Buffers → WireState → WireState
@@ -17,13 +19,17 @@ buffers_in b w = record w { es = record w.es { buffers = tables b } }
 abbrev pub attribs_in : Attribs → WireState → WireState
 attribs_in a w = record w { es = record w.es { attribs = a.attributes } }
 
+-- the state with these shaders and programs
+abbrev pub programs_in : Programs → WireState → WireState
+programs_in p w = record w { es = record w.es { programs = programs_as.tables p } }
+
 -- the state with these codes recorded
 abbrev pub errors_in : Errors → WireState → WireState
 errors_in e w = record w { es = record w.es { errors = e } }
 
--- the state with all three
-abbrev pub objects_in : Buffers → Attribs → Errors → WireState → WireState
-objects_in b a e w = record w { es = record w.es { buffers = tables b; attribs = a.attributes; errors = e } }
+-- the state with all four
+abbrev pub objects_in : Buffers → Programs → Attribs → Errors → WireState → WireState
+objects_in b p a e w = record w { es = record w.es { buffers = tables b; attribs = a.attributes; programs = programs_as.tables p; errors = e } }
 
 -- what is left of a command, once it was found to be neither malformed nor refused
 abbrev pub own_part : ObjectCommand → List ℕ → WireState → Meaning WireState

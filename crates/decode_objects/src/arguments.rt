@@ -1,15 +1,19 @@
-//! The argument rules of the commands on objects.
+//! The argument rules of the commands on objects, other than those on data in a bucket.
 ghost use Rattle.std.specs.Prelude.{◌≡◌};
 ghost use Rattle.buffer_mgr.specs.Tables.{tables};
+ghost use Rattle.program_mgr.specs.Tables as programs_as;
 ghost use Rattle.gl_plain.specs.State.{EsState};
 ghost use Rattle.gl_plain.specs.subjects.Buffers as plain;
 ghost use Rattle.gl_plain.specs.subjects.Data as words_of;
+ghost use Rattle.gl_plain.specs.subjects.Programs as programs_of;
+ghost use Rattle.gl_plain.specs.subjects.Uniforms as uniforms;
 ghost use Rattle.gl_plain.specs.object.Arguments.{object_is_bad};
 
 use buffer_mgr::Buffers;
 use gl_base::limits::DATA_LIMIT;
 use gl_base::{is_ordinary, is_reserved};
 use gl_plain::{DataWords, ObjectCommand};
+use program_mgr::{Programs, is_given_kind, uniform_needed};
 
 /// Whether GenBuffers may not give this id: it is none that may be given, or it is in use.
 fn gen_buffers_is_bad(buffers: &Buffers, id: u32) -> bool
@@ -34,7 +38,13 @@ fn has_no_data(words: DataWords) -> bool
 fn has_needed_data(words: DataWords, needed: u32) -> bool
     ensures { result ≡ words_of.has_needed_data words needed }
 {
-    words.source == 1 && words.count == needed
+    (words.source == 1 || words.source == 2) && words.count == needed
+}
+
+fn has_just_needed_data(words: DataWords, needed: u32) -> bool
+    ensures { result ≡ words_of.has_just_needed_data words needed }
+{
+    (has_no_data(words) && needed == 0) || has_needed_data(words, needed)
 }
 
 /// How many bytes BufferData and BufferSubData need: none for a size that is refused.
@@ -59,23 +69,57 @@ fn buffer_data_is_bad(size: i32, words: DataWords) -> bool
 fn buffer_sub_data_is_bad(size: i32, words: DataWords) -> bool
     ensures { result ≡ plain.buffer_sub_data_is_bad size words }
 {
-    let needed = data_needed(size);
-    !((has_no_data(words) && needed == 0) || has_needed_data(words, needed))
+    !has_just_needed_data(words, data_needed(size))
+}
+
+/// Whether CreateShader and CreateProgram may not give this id: it is none that may be given, or it is in use.
+fn create_is_bad(programs: &Programs, id: u32) -> bool
+    ensures { result ≡ programs_of.create_is_bad (programs_as.tables programs.now).names id }
+{
+    !is_ordinary(id) || programs.name(id).is_some()
+}
+
+/// Whether Uniform is given a kind that is none, or other than as many bytes as it needs.
+fn uniform_is_bad(kind: u32, count: i32, words: DataWords) -> bool
+    ensures { result ≡ uniforms.uniform_is_bad kind count words }
+{
+    !(is_given_kind(kind) && has_just_needed_data(words, uniform_needed(kind, count)))
 }
 
 /// Whether an argument rule of the command is broken.
-pub fn is_malformed(buffers: &Buffers, command: ObjectCommand) -> bool
-    ensures { (s : EsState) → result ≡ object_is_bad (record s { buffers = tables buffers.now }) command }
+pub fn is_malformed(buffers: &Buffers, programs: &Programs, command: ObjectCommand) -> bool
+    ensures { (s : EsState) → result ≡ object_is_bad (record s { buffers = tables buffers.now; programs = programs_as.tables programs.now }) command }
 {
     match command {
         ObjectCommand::GenBuffers { id } => gen_buffers_is_bad(buffers, id),
         ObjectCommand::BindBuffer { target: _, id } => bind_buffer_is_bad(id),
         ObjectCommand::BufferData { size, words, .. } => buffer_data_is_bad(size, words),
         ObjectCommand::BufferSubData { size, words, .. } => buffer_sub_data_is_bad(size, words),
+        ObjectCommand::CreateShader { id, kind: _ } | ObjectCommand::CreateProgram { id } => {
+            create_is_bad(programs, id)
+        }
+        ObjectCommand::ShaderSource { words, .. }
+        | ObjectCommand::BindAttribLocation { words, .. } => {
+            !has_just_needed_data(words, words.count)
+        }
+        ObjectCommand::Uniform {
+            kind,
+            count,
+            words,
+            ..
+        } => uniform_is_bad(kind, count, words),
         ObjectCommand::DeleteBuffers { .. }
         | ObjectCommand::VertexAttrib4f { .. }
         | ObjectCommand::VertexAttribPointer { .. }
         | ObjectCommand::EnableVertexAttribArray { .. }
-        | ObjectCommand::DisableVertexAttribArray { .. } => false,
+        | ObjectCommand::DisableVertexAttribArray { .. }
+        | ObjectCommand::CompileShader { .. }
+        | ObjectCommand::DeleteShader { .. }
+        | ObjectCommand::AttachShader { .. }
+        | ObjectCommand::DetachShader { .. }
+        | ObjectCommand::LinkProgram { .. }
+        | ObjectCommand::ValidateProgram { .. }
+        | ObjectCommand::UseProgram { .. }
+        | ObjectCommand::DeleteProgram { .. } => false,
     }
 }

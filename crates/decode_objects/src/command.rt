@@ -3,6 +3,7 @@ ghost use Rattle.std.specs.Prelude.{◌≡◌, Some};
 ghost use Rattle.gl_plain.specs.Commands.{command_of};
 ghost use Rattle.gl_plain.specs.Agreement.{AgreesIn};
 ghost use Rattle.gl_plain.specs.object.Arguments.{IsObjectData};
+ghost use Rattle.gl_plain.specs.declared.commands.Command as commands;
 ghost use Rattle.gl_plain.specs.declared.commands.ObjectCommand as objects;
 ghost use Rattle.gl_plain.specs.declared.commands.Command.TheVariants.{Object};
 ghost use Rattle.gl_driver.specs.Performed.{Acts, IsLawful};
@@ -17,25 +18,34 @@ use crate::attributes::{
 use crate::buffers::{
     bind_buffer, buffer_data, buffer_sub_data, data_bytes, delete_buffers, gen_buffers,
 };
+use crate::links::{
+    attach_shader, bind_attrib_location, detach_shader, link_program, use_program, validate_program,
+};
+use crate::programs::{
+    compile_shader, create_program, create_shader, delete_program, delete_shader, shader_source,
+};
 use crate::refusals::refusal;
+use crate::uniforms::uniform;
 use attrib_mgr::Attribs;
 use buffer_mgr::Buffers;
 use gl_driver::Driver;
 use gl_plain::{Command, Errors, ExecStop, Fetched, Malformed, ObjectCommand, Reply};
+use program_mgr::Programs;
 use std::alloc::Global;
 
 /// A command that is neither malformed nor refused.
 fn execute<D: Driver>(
     alloc: Global,
     buffers: &mut Buffers,
+    programs: &mut Programs,
     attribs: &mut Attribs,
     errors: &mut Errors,
     payload: &[u8],
     command: ObjectCommand,
     driver: &mut D,
 ) -> Result<Reply, ExecStop>
-    requires { IsReady command payload.now (objects_in buffers.old attribs.old errors.old) (D.history driver.old).state }
-    ensures { Acts D.history D.grown (own_part command payload.now) (objects_in buffers.old attribs.old errors.old) (objects_in buffers.new attribs.new errors.new) driver.old driver.new result }
+    requires { IsReady command payload.now (objects_in buffers.old programs.old attribs.old errors.old) (D.history driver.old).state }
+    ensures { Acts D.history D.grown (own_part command payload.now) (objects_in buffers.old programs.old attribs.old errors.old) (objects_in buffers.new programs.new attribs.new errors.new) driver.old driver.new result }
 {
     match command {
         ObjectCommand::GenBuffers { id } => gen_buffers(buffers, id, driver),
@@ -65,14 +75,69 @@ fn execute<D: Driver>(
         ObjectCommand::DisableVertexAttribArray { index } => {
             disable_vertex_attrib_array(attribs, index, driver)
         }
+        ObjectCommand::CreateShader { id, kind } => create_shader(programs, id, kind, driver),
+        ObjectCommand::ShaderSource { shader, .. } => {
+            shader_source(alloc, programs, shader, payload, driver)
+        }
+        ObjectCommand::CompileShader { shader } => compile_shader(programs, shader, driver),
+        ObjectCommand::DeleteShader { shader } => delete_shader(programs, shader, driver),
+        ObjectCommand::CreateProgram { id } => create_program(programs, id, driver),
+        ObjectCommand::AttachShader { program, shader } => {
+            attach_shader(programs, program, shader, driver)
+        }
+        ObjectCommand::DetachShader { program, shader } => {
+            detach_shader(programs, program, shader, driver)
+        }
+        ObjectCommand::BindAttribLocation { program, index, .. } => {
+            bind_attrib_location(programs, program, index, payload, driver)
+        }
+        ObjectCommand::LinkProgram { program } => link_program(alloc, programs, program, driver),
+        ObjectCommand::ValidateProgram { program } => validate_program(programs, program, driver),
+        ObjectCommand::UseProgram { program } => use_program(programs, program, driver),
+        ObjectCommand::DeleteProgram { program } => delete_program(programs, program, driver),
+        ObjectCommand::Uniform {
+            location,
+            kind,
+            count,
+            ..
+        } => uniform(programs, location, kind, count, payload, driver),
     }
 }
 
-/// Executes a command on objects, with the bytes that come beside it. A malformed one makes no driver call and changes nothing. A refused
-/// one makes none either, and its code is recorded (OpenGL ES 2.0.25, section 2.5).
+/// Executes a command on objects. Its data is the payload: what its bucket has, or else what came beside it. The rules on data in a bucket are
+/// tested before. A malformed one makes no driver call and changes nothing. A refused one makes none either, and its code is recorded
+/// (OpenGL ES 2.0.25, section 2.5).
+pub fn execute_object<D: Driver>(
+    alloc: Global,
+    buffers: &mut Buffers,
+    programs: &mut Programs,
+    attribs: &mut Attribs,
+    errors: &mut Errors,
+    payload: &[u8],
+    command: ObjectCommand,
+    driver: &mut D,
+) -> Result<Reply, ExecStop>
+    requires given { IsObjectData command payload.now }
+    requires agrees { AgreesIn (objects_in buffers.old programs.old attribs.old errors.old) (D.history driver.old).state }
+    ensures { IsLawful D.history D.grown (Object command) payload.now (objects_in buffers.old programs.old attribs.old errors.old) (objects_in buffers.new programs.new attribs.new errors.new) driver.old driver.new result }
+{
+    if is_malformed(buffers, programs, command) {
+        return Err(ExecStop::Bad(Malformed::InvalidArguments));
+    }
+    if let Some(error) = refusal(buffers, programs, command, payload) {
+        errors.note(error);
+        return Ok(Reply::None);
+    }
+    execute(
+        alloc, buffers, programs, attribs, errors, payload, command, driver,
+    )
+}
+
+/// Executes a command on objects as it was read. It does what `execute_object` does with the command that its words spell.
 pub fn object_command<D: Driver>(
     alloc: Global,
     buffers: &mut Buffers,
+    programs: &mut Programs,
     attribs: &mut Attribs,
     errors: &mut Errors,
     payload: &[u8],
@@ -80,18 +145,13 @@ pub fn object_command<D: Driver>(
     driver: &mut D,
 ) -> Result<Reply, ExecStop>
     requires family { (c : objects.ObjectCommand) × (command_of command.now ≡ Some (Object c)) × IsObjectData c payload.now }
-    requires agrees { AgreesIn (objects_in buffers.old attribs.old errors.old) (D.history driver.old).state }
-    ensures { IsLawful D.history D.grown (command_of command.now) payload.now (objects_in buffers.old attribs.old errors.old) (objects_in buffers.new attribs.new errors.new) driver.old driver.new result }
+    requires agrees { AgreesIn (objects_in buffers.old programs.old attribs.old errors.old) (D.history driver.old).state }
+    ensures { (c : commands.Command) → command_of command.now ≡ Some c → IsLawful D.history D.grown c payload.now (objects_in buffers.old programs.old attribs.old errors.old) (objects_in buffers.new programs.new attribs.new errors.new) driver.old driver.new result }
 {
-    let Some(Command::Object(command)) = command.command() else {
+    let Some(Command::Object(object)) = command.command() else {
         unreachable!();
     };
-    if is_malformed(buffers, command) {
-        return Err(ExecStop::Bad(Malformed::InvalidArguments));
-    }
-    if let Some(error) = refusal(buffers, command) {
-        errors.note(error);
-        return Ok(Reply::None);
-    }
-    execute(alloc, buffers, attribs, errors, payload, command, driver)
+    execute_object(
+        alloc, buffers, programs, attribs, errors, payload, object, driver,
+    )
 }

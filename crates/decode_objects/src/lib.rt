@@ -5,6 +5,9 @@ mod arguments;
 mod attributes;
 mod buffers;
 mod command;
+mod links;
+mod programs;
 mod refusals;
+mod uniforms;
 
-pub use command::object_command;
+pub use command::{execute_object, object_command};

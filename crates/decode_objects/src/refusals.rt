@@ -2,11 +2,13 @@
 ghost use Rattle.std.specs.Prelude.{◌≡◌, false};
 ghost use Rattle.std.specs.Int.{cast_signed, w32};
 ghost use Rattle.buffer_mgr.specs.Tables.{tables};
+ghost use Rattle.program_mgr.specs.Tables as programs_as;
 ghost use Rattle.gl_plain.specs.Words.{is_negative};
 ghost use Rattle.gl_plain.specs.State.{EsState};
 ghost use Rattle.gl_plain.specs.subjects.Names.{is_bind_over_limit};
 ghost use Rattle.gl_plain.specs.subjects.Buffers as plain;
 ghost use Rattle.gl_plain.specs.subjects.Attributes.{array_of};
+ghost use Rattle.gl_plain.specs.object.Arguments.{object_is_bad, IsObjectData};
 ghost use Rattle.gl_plain.specs.object.Refusal.{object_command_refusal};
 
 use attrib_mgr::{attribute_refusal, pointer_refusal};
@@ -15,6 +17,7 @@ use gl_base::enums::{DYNAMIC_DRAW, STATIC_DRAW, STREAM_DRAW};
 use gl_base::limits::DATA_LIMIT;
 use gl_base::{GlEnum, is_reserved};
 use gl_plain::{ArraySpec, ArrayWords, GlError, ObjectCommand};
+use program_mgr::Programs;
 
 /// The refusal of GenBuffers for one id: a reserved one is not counted.
 fn gen_buffers_refusal(buffers: &Buffers, id: u32) -> Option<GlError>
@@ -120,9 +123,16 @@ pub fn array_spec(buffers: &Buffers, array: ArrayWords) -> ArraySpec
     }
 }
 
-/// The code that a command is refused with, if any.
-pub fn refusal(buffers: &Buffers, command: ObjectCommand) -> Option<GlError>
-    ensures { (s : EsState) → result ≡ object_command_refusal (record s { buffers = tables buffers.now }) command }
+/// The code that a command that is not malformed, with its data, is refused with, if any.
+pub fn refusal(
+    buffers: &Buffers,
+    programs: &Programs,
+    command: ObjectCommand,
+    payload: &[u8],
+) -> Option<GlError>
+    requires given { IsObjectData command payload.now }
+    requires fair { (s : EsState) × (object_is_bad (record s { buffers = tables buffers.now; programs = programs_as.tables programs.now }) command ≡ false) }
+    ensures { (s : EsState) → result ≡ object_command_refusal (record s { buffers = tables buffers.now; programs = programs_as.tables programs.now }) command payload.now }
 {
     match command {
         ObjectCommand::GenBuffers { id } => gen_buffers_refusal(buffers, id),
@@ -146,5 +156,28 @@ pub fn refusal(buffers: &Buffers, command: ObjectCommand) -> Option<GlError>
         ObjectCommand::VertexAttribPointer { index, array } => {
             pointer_refusal(index, array_spec(buffers, array))
         }
+        ObjectCommand::CreateShader { id: _, kind } => programs.create_shader_refusal(kind),
+        ObjectCommand::ShaderSource { shader, .. } | ObjectCommand::CompileShader { shader } => {
+            programs.shader_refusal(shader)
+        }
+        ObjectCommand::DeleteShader { shader } => programs.delete_shader_refusal(shader),
+        ObjectCommand::CreateProgram { .. } => programs.create_program_refusal(),
+        ObjectCommand::AttachShader { program, shader } => programs.attach_refusal(program, shader),
+        ObjectCommand::DetachShader { program, shader } => programs.detach_refusal(program, shader),
+        ObjectCommand::BindAttribLocation { program, index, .. } => {
+            programs.bind_attrib_location_refusal(program, index, payload)
+        }
+        ObjectCommand::LinkProgram { program } | ObjectCommand::ValidateProgram { program } => {
+            programs.program_refusal(program)
+        }
+        ObjectCommand::UseProgram { program } => programs.use_program_refusal(program),
+        ObjectCommand::DeleteProgram { program } => programs.delete_program_refusal(program),
+        ObjectCommand::Uniform {
+            location,
+            kind,
+            count,
+            transpose,
+            words: _,
+        } => programs.uniform_refusal(location, kind, count, transpose, payload),
     }
 }

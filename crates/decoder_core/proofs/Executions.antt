@@ -1,5 +1,7 @@
 -- From what a command did to what its execution promises.
-use Rattle.std.proofs.Common.{◌≡◌, ℕ, List, [], Option, None, Some, Result, Ok, Err, refl, sym, subst}
+use Rattle.std.proofs.Common.{◌≡◌, ℕ, Bool, true, false, List, [], Option, None, Some, Result, Ok, Err, refl, sym, ap, subst}
+use Rattle.std.proofs.lemmas.Result.{err_from_is_err_and}
+use Rattle.std.specs.Result.{IsErrAnd}
 use Rattle.gl_plain.specs.declared.calls.Reply.{Reply}
 use Rattle.gl_plain.specs.declared.calls.Reply.TheVariants as reply
 use Rattle.gl_plain.specs.declared.commands.Command.{Command}
@@ -7,9 +9,15 @@ use Rattle.gl_plain.specs.declared.commands.Command.TheVariants.{Noop}
 use Rattle.gl_plain.specs.declared.commands.Fetched.{Fetched}
 use Rattle.gl_plain.specs.declared.driver_calls.DriverEntry.{DriverEntry}
 use Rattle.gl_plain.specs.declared.stop.ExecStop.{ExecStop}
+use Rattle.gl_plain.specs.Stops.{no_memory}
+use Rattle.gl_plain.specs.Oracle.{default_answers}
 use Rattle.gl_plain.specs.State.{WireState}
 use Rattle.gl_plain.specs.Commands.{command_of}
-use Rattle.gl_plain.specs.Meaning.{meaning_by, meaning_of}
+use Rattle.gl_plain.specs.declared.commands.DataWords.{DataWords}
+use Rattle.gl_plain.specs.subjects.Buckets.{breaks_bucket_rule, data_given}
+use Rattle.gl_plain.specs.Wire.{data_words, given_to}
+use Rattle.gl_plain.specs.Records.{contents_after, step_records, contents_behind, records_made}
+use Rattle.gl_plain.specs.Meaning.{command_meaning, meaning_if, meaning_by, meaning_of}
 use Rattle.gl_plain.specs.Journal.{IsLegal, state_after}
 use Rattle.gl_plain.specs.Agreement.{Agrees}
 use Rattle.gl_plain.specs.Lawful.{Keeps}
@@ -20,10 +28,15 @@ use Rattle.gl_laws.proofs.Commands.{keeps}
 use Rattle.decoder_core.specs.Execution.{ActsAlone, Performs}
 
 -- a command that was one step keeps to the laws
-kept : (w w2 : WireState) (h h2 : History) (c : Option Command) (payload : List ℕ) (entries : List DriverEntry) (r : Reply) → Agrees w h.state → IsLegal h.state entries → h2.state ≡ state_after h.state entries
-    → performed.Did (meaning_by w c payload) h h2 entries w2 r → Keeps c w h.state entries w2 h2.state
-kept w w2 h h2 None payload entries r agrees legal state did = let fair = did.fair in cc
-kept w w2 h h2 (Some c) payload entries r agrees legal state did = keeps w h.state agrees c payload did.fair w2 h2.state entries r legal state did.step did.part
+module _ (w w2 : WireState) (h h2 : History) (entries : List DriverEntry) (r : Reply) (agrees : Agrees w h.state) (legal : IsLegal h.state entries) (state : h2.state ≡ state_after h.state entries) where
+  kept_if : (c : Command) (payload : List ℕ) (broken : Bool) → performed.Did (meaning_if broken w c payload) h h2 entries w2 r
+      → Keeps (contents_after w.es c (given_to w c payload)) (step_records w.es c (given_to w c payload)) h.state entries w2 h2.state
+  kept_if c payload true did = let fair = did.fair in cc
+  kept_if c payload false did = keeps w h.state agrees c (given_to w c payload) did.fair w2 h2.state entries r legal state did.step did.part
+
+  kept : (c : Option Command) (payload : List ℕ) → performed.Did (meaning_by w c payload) h h2 entries w2 r → Keeps (contents_behind w c payload) (records_made w c payload) h.state entries w2 h2.state
+  kept None payload did = let fair = did.fair in cc
+  kept (Some c) payload did = kept_if c payload (breaks_bucket_rule w.buckets (data_words c)) did
 
 module _ {D : Type 0} {history : D → History} {grown : D → D → Type 0} (f : Fetched) (w : WireState) (d : D) (agrees : Agrees w (history d).state) where
   -- a command that did what it means, over a driver that agrees with the tables
@@ -32,25 +45,37 @@ module _ {D : Type 0} {history : D → History} {grown : D → D → Type 0} (f 
   performs w2 d2 entries served (Ok r) did = record {
     entries = entries;
     served = served;
-    outcome = record { itself = did; keeps = kept w w2 (history d) (history d2) (command_of f) f.payload entries r agrees served.legal served.state did };
+    outcome = record { itself = did; keeps = kept w w2 (history d) (history d2) entries r agrees served.legal served.state (command_of f) f.payload did };
   }
   performs w2 d2 entries served (Err stop) outcome = record { entries = entries; served = served; outcome = outcome }
 
+  -- the same of the command that is spelled, which breaks no rule of a bucket
+  performs_spelled : (c : Command) (payload : List ℕ) → command_of f ≡ Some c → breaks_bucket_rule w.buckets (data_words c) ≡ false → payload ≡ given_to w c f.payload
+      → (w2 : WireState) (d2 : D) (entries : List DriverEntry) → Served history grown d d2 entries → (result : Result Reply ExecStop)
+      → performed.IsOutcome (command_meaning w c payload) (history d) (history d2) entries w w2 result → Performs history grown f w d w2 d2 result
+  performs_spelled c payload is whole given w2 d2 entries served result outcome =
+      let P : List ℕ → Type 0 = λ p. performed.IsOutcome (command_meaning w c p) (history d) (history d2) entries w w2 result in
+      let Q : Bool → Type 0 = λ b. performed.IsOutcome (meaning_if b w c f.payload) (history d) (history d2) entries w w2 result in
+      let R : Option Command → Type 0 = λ o. performed.IsOutcome (meaning_by w o f.payload) (history d) (history d2) entries w w2 result in
+      performs w2 d2 entries served result (subst R (sym is) (subst Q (sym whole) (subst P given outcome)))
+
   module _ (itself : (a : D) → grown a a) where
-    -- a command that needs no driver
-    pub performs_alone : (c : Command) (w2 : WireState) (result : Result Reply ExecStop) → command_of f ≡ Some c → ActsAlone c w w2 result → Performs history grown f w d w2 d result
-    performs_alone c w2 result is acts =
-        performs w2 d [] (Served-nothing itself d) result
-        (subst (λ (o : Option Command). performed.IsOutcome (meaning_by w o f.payload) (history d) (history d) [] w w2 result) (sym is) (acts f.payload (history d)))
+    -- a command that needs no driver, and has no data in a bucket
+    pub performs_alone : (c : Command) → data_words c ≡ None → (w2 : WireState) (result : Result Reply ExecStop) → command_of f ≡ Some c → ActsAlone c f.payload w w2 result → Performs history grown f w d w2 d result
+    performs_alone c alone w2 result is acts =
+        performs_spelled c f.payload is (ap (breaks_bucket_rule w.buckets) alone) (sym (ap (λ (words : Option DataWords). data_given w.buckets words f.payload) alone)) w2 d [] (Served-nothing itself d) result (acts (history d))
 
   -- a command of a family, which was lent some of the tables
-  pub performs_lawfully : (payload : List ℕ) (before after : WireState → WireState) (w2 : WireState) (d2 : D) (result : Result Reply ExecStop) → payload ≡ f.payload → before w ≡ w → after w ≡ w2
-      → performed.IsLawful history grown (command_of f) payload before after d d2 result → Performs history grown f w d w2 d2 result
-  performs_lawfully payload before after w2 d2 result given same same2 lawful =
+  pub performs_lawfully : (c : Command) (payload : List ℕ) (before after : WireState → WireState) (w2 : WireState) (d2 : D) (result : Result Reply ExecStop) → command_of f ≡ Some c → breaks_bucket_rule w.buckets (data_words c) ≡ false → payload ≡ given_to w c f.payload
+      → before w ≡ w → after w ≡ w2 → performed.IsLawful history grown c payload before after d d2 result → Performs history grown f w d w2 d2 result
+  performs_lawfully c payload before after w2 d2 result is whole given same same2 lawful =
       let acts = lawful.acts in
-      let outcome = subst (λ (p : List ℕ). performed.IsOutcome (meaning_by (before w) (command_of f) p) (history d) (history d2) acts.entries (before w) (after w) result) given (acts.outcome w) in
-      let from_w = subst (λ (z : WireState). performed.IsOutcome (meaning_by z (command_of f) f.payload) (history d) (history d2) acts.entries z (after w) result) same outcome in
-      performs w2 d2 acts.entries acts.served result (subst (λ (z : WireState). performed.IsOutcome (meaning_of w f) (history d) (history d2) acts.entries w z result) same2 from_w)
+      let from_w = subst (λ (z : WireState). performed.IsOutcome (command_meaning z c payload) (history d) (history d2) acts.entries z (after w) result) same (acts.outcome w) in
+      performs_spelled c payload is whole given w2 d2 acts.entries acts.served result (subst (λ (z : WireState). performed.IsOutcome (command_meaning w c payload) (history d) (history d2) acts.entries w z result) same2 from_w)
 
-pub does_nothing : (w : WireState) → ActsAlone Noop w w (Ok reply.None)
-does_nothing w = λ payload h. record { fair = refl; step = λ rest. refl; part = λ rest. refl; stop = refl }
+-- there was no memory, and `?` passes that on
+pub passes_alone : (c : Command) (payload : List ℕ) (w w2 : WireState) (result : Result Reply ExecStop) → IsErrAnd result (λ e. e ≡ no_memory) → ActsAlone c payload w w2 result
+passes_alone c payload w w2 result passed = λ h. let p = err_from_is_err_and result passed in rw (p.1, p.2) ((default_answers, (command_meaning w c payload).calls default_answers, refl), λ bad. refl)
+
+pub does_nothing : (w : WireState) (payload : List ℕ) → ActsAlone Noop payload w w (Ok reply.None)
+does_nothing w payload = λ h. record { fair = refl; step = λ rest. refl; part = λ rest. refl; stop = refl }

@@ -9,17 +9,20 @@ use Rattle.gl_plain.specs.subjects.Images.{no_covers}
 use Rattle.gl_plain.specs.State.{WireState}
 use Rattle.gl_plain.specs.Commands.{command_of}
 use Rattle.gl_plain.specs.Meaning.{command_meaning, meaning_of}
+use Rattle.gl_plain.specs.Records.{contents_behind, records_made}
 use Rattle.gl_plain.specs.Lawful.{Keeps}
 use Rattle.gl_driver.specs.History.{History, Served}
 use Rattle.gl_driver.specs.Performed as performed
 use Rattle.buffer_mgr.specs.Tables.{tables}
+use Rattle.program_mgr.specs.Tables as programs
 use Rattle.decoder_core.specs.declared.tables.Tables.{Tables}
 
 -- the state that the service's tables are
 abbrev pub state_of : Tables → WireState
 state_of t = record {
-  es = record { surface = t.surface; buffers = tables t.buffers; attribs = t.attribs.attributes; errors = t.errors };
+  es = record { surface = t.surface; buffers = tables t.buffers; attribs = t.attribs.attributes; programs = programs.tables t.programs; errors = t.errors };
   covers = no_covers;
+  buckets = t.buckets;
   token = t.token;
 }
 
@@ -27,7 +30,7 @@ state_of t = record {
 -- contents are those that the step leaves, and its records are the step's.
 pub record Did (f : Fetched) (w : WireState) (h h2 : History) (entries : List DriverEntry) (w2 : WireState) (reply : Reply) : Type 0 where
   pub itself : performed.Did (meaning_of w f) h h2 entries w2 reply
-  pub keeps : Keeps (command_of f) w h.state entries w2 h2.state
+  pub keeps : Keeps (contents_behind w (command_of f) f.payload) (records_made w (command_of f) f.payload) h.state entries w2 h2.state
 
 -- what a result says
 abbrev pub IsOutcome : Fetched → WireState → History → List DriverEntry → WireState → History → Result Reply ExecStop → Type 0
@@ -40,6 +43,6 @@ pub record Performs {D : Type 0} (history : D → History) (grown : D → D → 
   pub served : Served history grown d d2 entries
   pub outcome : IsOutcome f w (history d) entries w2 (history d2) result
 
--- a command that needs no driver was executed, with whatever bytes beside it and whatever driver
-abbrev pub ActsAlone : Command → WireState → WireState → Result Reply ExecStop → Type 0
-ActsAlone c w w2 result = (payload : List ℕ) (h : History) → performed.IsOutcome (command_meaning w c payload) h h [] w w2 result
+-- a command that needs no driver was executed, with its data, and whatever driver
+abbrev pub ActsAlone : Command → List ℕ → WireState → WireState → Result Reply ExecStop → Type 0
+ActsAlone c payload w w2 result = (h : History) → performed.IsOutcome (command_meaning w c payload) h h [] w w2 result

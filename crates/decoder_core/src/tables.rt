@@ -1,16 +1,27 @@
 //! The tables of the service, and the execution of one command by them.
-ghost use Rattle.std.specs.Prelude.{◌≡◌};
-ghost use Rattle.gl_plain.specs.declared.commands.Command.TheVariants.{Query, SetToken};
+ghost use Rattle.std.specs.Prelude.{◌≡◌, ℕ, List, IfSome, is_none};
+ghost use Rattle.gl_plain.specs.declared.commands.Command.TheVariants.{Bucket, Query, SetToken};
+ghost use Rattle.gl_plain.specs.declared.commands.BucketCommand.TheVariants as buckets;
+ghost use Rattle.gl_plain.specs.subjects.Buckets.{IsBucketData, breaks_bucket_rule, data_given};
 
 use attrib_mgr::Attribs;
+use bucket_store::Buckets;
 use buffer_mgr::Buffers;
-use decode_objects::object_command;
+use decode_objects::execute_object;
+use gl_base::limits::{DATA_LIMIT, LAST_BUCKET, LAST_TOKEN};
 use gl_driver::Driver;
-use gl_plain::{Command, Errors, ExecStop, Fetched, Malformed, QueryCommand, Reply};
+use gl_plain::{
+    BucketCommand, Bytes, Command, DataWords, Errors, ExecStop, Fetched, Malformed, QueryCommand,
+    Reply,
+};
+use program_mgr::Programs;
 use std::alloc::Global;
 
-/// One more than the greatest token: a token has 31 bits.
-const TOKENS: u32 = 1 << 31;
+/// The source of data in shared memory.
+const IN_MEMORY: u32 = 1;
+
+/// The source of data in a bucket.
+const IN_BUCKET: u32 = 2;
 
 /// The tables of the service.
 #[derive(Drop)]
@@ -18,9 +29,37 @@ pub struct Tables {
     alloc: Global,
     surface: (u32, u32),
     buffers: Buffers,
+    programs: Programs,
     attribs: Attribs,
     errors: Errors,
+    buckets: Buckets,
     token: u32,
+}
+
+/// The data of a command on objects: what its bucket has, or else the bytes that came beside it. None where its words name a bucket and break a
+/// rule of it: there is none of this number, the last word is not 0, or the bucket has other than so many bytes.
+fn data_of<'a>(
+    buckets: &'a Buckets,
+    words: Option<DataWords>,
+    payload: &'a [u8],
+) -> Option<&'a [u8]>
+    ensures broken { is_none result ≡ breaks_bucket_rule buckets.now words }
+    ensures given { IfSome result (λ bytes. bytes.now ≡ data_given buckets.now words payload.now) }
+{
+    let Some(words) = words else {
+        return Some(payload);
+    };
+    if words.source != IN_BUCKET {
+        return Some(payload);
+    }
+    if words.a > LAST_BUCKET || words.b != 0 {
+        return None;
+    }
+    let bytes = buckets.read(words.a);
+    if bytes.len() != words.count as usize {
+        return None;
+    }
+    Some(bytes)
 }
 
 impl Tables {
@@ -37,8 +76,10 @@ impl Tables {
             alloc,
             surface,
             buffers: Buffers::new(alloc),
+            programs: Programs::new(alloc),
             attribs: Attribs::new(),
             errors: Errors::new(),
+            buckets: Buckets::new(alloc),
             token: 0,
         }
     }
@@ -52,18 +93,97 @@ impl Tables {
 
     /// SetToken.
     fn set_token(&mut self, token: u32) -> Result<Reply, ExecStop>
-        ensures { ActsAlone (SetToken token) (state_of self.old) (state_of self.new) result }
+        ensures { (payload : List ℕ) → ActsAlone (SetToken token) payload (state_of self.old) (state_of self.new) result }
     {
-        if token >= TOKENS {
+        if token > LAST_TOKEN {
             return Err(ExecStop::Bad(Malformed::InvalidArguments));
         }
         self.token = token;
         Ok(Reply::None)
     }
 
+    /// SetBucketSize: the bucket becomes so many zeros.
+    fn set_bucket_size(&mut self, bucket: u32, size: u32) -> Result<Reply, ExecStop>
+        ensures { (payload : List ℕ) → ActsAlone (Bucket (buckets.SetSize bucket size)) payload (state_of self.old) (state_of self.new) result }
+    {
+        if bucket > LAST_BUCKET || size > DATA_LIMIT {
+            return Err(ExecStop::Bad(Malformed::InvalidArguments));
+        }
+        self.buckets.size(bucket, size)?;
+        Ok(Reply::None)
+    }
+
+    /// SetBucketData: the data, which is in shared memory, is written into the bucket.
+    fn set_bucket_data(
+        &mut self,
+        bucket: u32,
+        offset: u32,
+        words: DataWords,
+        payload: &[u8],
+    ) -> Result<Reply, ExecStop>
+        requires { IsBucketData (buckets.SetData bucket offset words) payload.now }
+        ensures { ActsAlone (Bucket (buckets.SetData bucket offset words)) payload.now (state_of self.old) (state_of self.new) result }
+    {
+        if bucket > LAST_BUCKET
+            || words.source != IN_MEMORY
+            || !self.buckets.write(bucket, offset, payload)
+        {
+            return Err(ExecStop::Bad(Malformed::InvalidArguments));
+        }
+        Ok(Reply::None)
+    }
+
+    /// GetBucketStart: the reply is the bucket's size.
+    fn get_bucket_start(&mut self, bucket: u32) -> Result<Reply, ExecStop>
+        ensures { (payload : List ℕ) → ActsAlone (Bucket (buckets.GetStart bucket)) payload (state_of self.old) (state_of self.new) result }
+    {
+        if bucket > LAST_BUCKET {
+            return Err(ExecStop::Bad(Malformed::InvalidArguments));
+        }
+        Ok(Reply::Word(self.buckets.read(bucket).len() as u32))
+    }
+
+    /// GetBucketData: the reply is so many of the bucket's bytes.
+    fn get_bucket_data(&mut self, bucket: u32, offset: u32, count: u32) -> Result<Reply, ExecStop>
+        ensures { (payload : List ℕ) → ActsAlone (Bucket (buckets.GetData bucket offset count)) payload (state_of self.old) (state_of self.new) result }
+    {
+        if bucket > LAST_BUCKET {
+            return Err(ExecStop::Bad(Malformed::InvalidArguments));
+        }
+        let bytes = self.buckets.read(bucket);
+        let first = offset as usize;
+        let count = count as usize;
+        if first > bytes.len() || count > bytes.len() - first {
+            return Err(ExecStop::Bad(Malformed::InvalidArguments));
+        }
+        let bytes = Bytes::from_slice(self.alloc, &bytes[first..first + count])?;
+        Ok(Reply::Bytes(bytes))
+    }
+
+    /// A command on a bucket.
+    fn bucket(&mut self, command: BucketCommand, payload: &[u8]) -> Result<Reply, ExecStop>
+        requires { IsBucketData command payload.now }
+        ensures { ActsAlone (Bucket command) payload.now (state_of self.old) (state_of self.new) result }
+    {
+        match command {
+            BucketCommand::SetSize { bucket, size } => self.set_bucket_size(bucket, size),
+            BucketCommand::SetData {
+                bucket,
+                offset,
+                words,
+            } => self.set_bucket_data(bucket, offset, words, payload),
+            BucketCommand::GetStart { bucket } => self.get_bucket_start(bucket),
+            BucketCommand::GetData {
+                bucket,
+                offset,
+                count,
+            } => self.get_bucket_data(bucket, offset, count),
+        }
+    }
+
     /// A command that asks for state.
     fn query(&mut self, command: QueryCommand) -> Result<Reply, ExecStop>
-        ensures { ActsAlone (Query command) (state_of self.old) (state_of self.new) result }
+        ensures { (payload : List ℕ) → ActsAlone (Query command) payload (state_of self.old) (state_of self.new) result }
     {
         match command {
             QueryCommand::GetError => Ok(Reply::Error(self.errors.take())),
@@ -83,16 +203,24 @@ impl Tables {
         match command.command() {
             Some(Command::Noop) => Ok(Reply::None),
             Some(Command::SetToken { token }) => self.set_token(token),
+            Some(Command::Bucket(bucket)) => self.bucket(bucket, command.payload.as_slice()),
             Some(Command::Query(query)) => self.query(query),
-            Some(Command::Object(_)) => object_command(
-                self.alloc,
-                &mut self.buffers,
-                &mut self.attribs,
-                &mut self.errors,
-                command.payload.as_slice(),
-                command,
-                driver,
-            ),
+            Some(Command::Object(object)) => {
+                let beside = command.payload.as_slice();
+                let Some(payload) = data_of(&self.buckets, object.data_words(), beside) else {
+                    return Err(ExecStop::Bad(Malformed::InvalidArguments));
+                };
+                execute_object(
+                    self.alloc,
+                    &mut self.buffers,
+                    &mut self.programs,
+                    &mut self.attribs,
+                    &mut self.errors,
+                    payload,
+                    object,
+                    driver,
+                )
+            }
             None => Err(ExecStop::Bad(Malformed::InvalidArguments)),
         }
     }

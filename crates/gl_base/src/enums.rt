@@ -35,6 +35,60 @@ pub const FLOAT: GlEnum = GlEnum(0x1406);
 /// Signed numbers of 32 bits with 16 bits behind the point (section 2.8).
 pub const FIXED: GlEnum = GlEnum(0x140C);
 
+/// Signed numbers of 32 bits, as a uniform has them (section 2.10.4).
+pub const INT: GlEnum = GlEnum(0x1404);
+
+/// Two floats (section 2.10.4).
+pub const FLOAT_VEC2: GlEnum = GlEnum(0x8B50);
+
+/// Three floats (section 2.10.4).
+pub const FLOAT_VEC3: GlEnum = GlEnum(0x8B51);
+
+/// Four floats (section 2.10.4).
+pub const FLOAT_VEC4: GlEnum = GlEnum(0x8B52);
+
+/// Two signed numbers (section 2.10.4).
+pub const INT_VEC2: GlEnum = GlEnum(0x8B53);
+
+/// Three signed numbers (section 2.10.4).
+pub const INT_VEC3: GlEnum = GlEnum(0x8B54);
+
+/// Four signed numbers (section 2.10.4).
+pub const INT_VEC4: GlEnum = GlEnum(0x8B55);
+
+/// A boolean (section 2.10.4).
+pub const BOOL: GlEnum = GlEnum(0x8B56);
+
+/// Two booleans (section 2.10.4).
+pub const BOOL_VEC2: GlEnum = GlEnum(0x8B57);
+
+/// Three booleans (section 2.10.4).
+pub const BOOL_VEC3: GlEnum = GlEnum(0x8B58);
+
+/// Four booleans (section 2.10.4).
+pub const BOOL_VEC4: GlEnum = GlEnum(0x8B59);
+
+/// A matrix of two columns of two floats (section 2.10.4).
+pub const FLOAT_MAT2: GlEnum = GlEnum(0x8B5A);
+
+/// A matrix of three columns of three floats (section 2.10.4).
+pub const FLOAT_MAT3: GlEnum = GlEnum(0x8B5B);
+
+/// A matrix of four columns of four floats (section 2.10.4).
+pub const FLOAT_MAT4: GlEnum = GlEnum(0x8B5C);
+
+/// A sampler of two-dimensional textures (section 2.10.4).
+pub const SAMPLER_2D: GlEnum = GlEnum(0x8B5E);
+
+/// A sampler of cube map textures (section 2.10.4).
+pub const SAMPLER_CUBE: GlEnum = GlEnum(0x8B60);
+
+/// A shader of fragments (section 2.10.1).
+pub const FRAGMENT_SHADER: GlEnum = GlEnum(0x8B30);
+
+/// A shader of vertices (section 2.10.1).
+pub const VERTEX_SHADER: GlEnum = GlEnum(0x8B31);
+
 /// What GetError answers where no code is recorded (section 2.5).
 pub const NO_ERROR: u32 = 0;
 
@@ -55,3 +109,6 @@ pub const INVALID_FRAMEBUFFER_OPERATION: u32 = 0x0506;
 
 /// The float 1, by its pattern of bits (IEEE 754, binary32).
 pub const ONE: u32 = 0x3F80_0000;
+
+/// The float -0, by its pattern of bits (IEEE 754, binary32).
+pub const NEGATIVE_ZERO: u32 = 0x8000_0000;

@@ -18,6 +18,21 @@ pub const LAST_RESERVED_NAME: u32 = 0xFFFF_FF10;
 /// The index of the last vertex attribute (MAX_VERTEX_ATTRIBS is 16).
 pub const LAST_ATTRIBUTE: u32 = 15;
 
+/// The most bytes of an attribute's or a uniform's name.
+pub const NAME_LENGTH_LIMIT: u32 = 255;
+
+/// The most elements that the uniforms of a program have together, and the most that one command gives.
+pub const UNIFORM_LIMIT: u32 = 1024;
+
+/// The last texture unit, which is the greatest value of a sampler (MAX_COMBINED_TEXTURE_IMAGE_UNITS is 8).
+pub const LAST_UNIT: u32 = 7;
+
+/// The last bucket. The first is 0.
+pub const LAST_BUCKET: u32 = 3;
+
+/// The greatest token, which has 31 bits.
+pub const LAST_TOKEN: u32 = 0x7FFF_FFFF;
+
 /// The most bytes that one copy of shared memory takes.
 pub const COPY_LIMIT: u32 = 4096;
 

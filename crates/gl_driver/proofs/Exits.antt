@@ -19,6 +19,7 @@ use Rattle.gl_plain.specs.driver.Answers.{told}
 use Rattle.gl_plain.specs.Covers.{all_filled, zeroings}
 use Rattle.gl_plain.specs.Wire.{is_bad, command_refusal, whole_first, own_step, own_calls, calls_by, step_by, wire_step, command_calls}
 use Rattle.gl_plain.specs.Meaning.{Meaning, command_meaning, own_meaning}
+use Rattle.gl_plain.specs.Records.{contents_after, step_records}
 use Rattle.gl_plain.specs.Parts.{calls_in}
 use Rattle.gl_plain.specs.Journal.{IsLegal, state_after}
 use Rattle.gl_plain.specs.Agreement.{Agrees}
@@ -92,7 +93,7 @@ abbrev pub own_means : Command → List ℕ → WireState → Meaning WireState
 own_means c payload w = own_meaning w c payload
 
 -- a command that is not refused, and needs no image written first, is its own part
-pub own_leads : (w : WireState) (c : Command) (payload : List ℕ) → whole_first w c ≡ [] → is_bad w c ≡ false → command_refusal w.es c ≡ None → Leads (command_meaning w c payload) (own_meaning w c payload) []
+pub own_leads : (w : WireState) (c : Command) (payload : List ℕ) → whole_first w c ≡ [] → is_bad w c ≡ false → command_refusal w.es c payload ≡ None → Leads (command_meaning w c payload) (own_meaning w c payload) []
 own_leads w c payload whole fair taken = record {
   fair = fair;
   fair_after = refl;
@@ -102,20 +103,20 @@ own_leads w c payload whole fair taken = record {
 
 module _ {D : Type 0} {history : D → History} {grown : D → D → Type 0} (c : Command) (payload : List ℕ) {before after : WireState → WireState} where
   -- it is refused
-  pub ends_refused : ((a : D) → grown a a) → {d : D} {error : GlError} → ((s : WireState) → is_bad (before s) c ≡ false) → ((s : WireState) → command_refusal (before s).es c ≡ Some error) → ((s : WireState) → record (before s) { es = with_error (before s).es error } ≡ after s)
+  pub ends_refused : ((a : D) → grown a a) → {d : D} {error : GlError} → ((s : WireState) → is_bad (before s) c ≡ false) → ((s : WireState) → command_refusal (before s).es c payload ≡ Some error) → ((s : WireState) → record (before s) { es = with_error (before s).es error } ≡ after s)
       → Acts history grown (means c payload) before after d d (Ok reply.None)
   ends_refused itself {error = error} fair refused is = ends_alone {m = means c payload} itself fair (λ s o. sym (ap (λ r. calls_by r (before s) c payload o) (refused s)))
       (λ s o. ap (λ r. step_by r (before s) c payload o) (refused s) ∙ (λ i. record { state = is s i; oracle = o; reply = reply.None }))
 
   -- what is left of it, once it was found to be neither malformed nor refused
-  pub ends_own : ((a : D) → grown a a) → ((a b c : D) → grown a b → grown b c → grown a c) → {d d2 : D} {result : Result Reply ExecStop} → ((s : WireState) → whole_first (before s) c ≡ []) → ((s : WireState) → is_bad (before s) c ≡ false) → ((s : WireState) → command_refusal (before s).es c ≡ None)
+  pub ends_own : ((a : D) → grown a a) → ((a b c : D) → grown a b → grown b c → grown a c) → {d d2 : D} {result : Result Reply ExecStop} → ((s : WireState) → whole_first (before s) c ≡ []) → ((s : WireState) → is_bad (before s) c ≡ false) → ((s : WireState) → command_refusal (before s).es c payload ≡ None)
       → Acts history grown (own_means c payload) before after d d2 result → Acts history grown (means c payload) before after d d2 result
   ends_own itself further {d} {result = result} whole fair taken a = goes_on further result (Served-nothing itself d) refl (λ s. own_leads (before s) c payload (whole s) (fair s) (taken s)) a
 
   -- it keeps to the laws, where each command does that was one step with the answers of its own part
   pub lawful : ((w : WireState) (d : DriverState) → Agrees w d → is_bad w c ≡ false → (w2 : WireState) (d2 : DriverState) (es : List DriverEntry) (r : Reply) → IsLegal d es → d2 ≡ state_after d es
-      → ((o : Oracle) → wire_step w c payload (told es o) ≡ record { state = w2; oracle = o; reply = r }) → ((o : Oracle) → calls_in es ≡ command_calls w c payload (told es o)) → Keeps (Some c) w d es w2 d2)
-      → {d d2 : D} (result : Result Reply ExecStop) → Acts history grown (means c payload) before after d d2 result → IsLawful history grown (Some c) payload before after d d2 result
+      → ((o : Oracle) → wire_step w c payload (told es o) ≡ record { state = w2; oracle = o; reply = r }) → ((o : Oracle) → calls_in es ≡ command_calls w c payload (told es o)) → Keeps (contents_after w.es c payload) (step_records w.es c payload) d es w2 d2)
+      → {d d2 : D} (result : Result Reply ExecStop) → Acts history grown (means c payload) before after d d2 result → IsLawful history grown c payload before after d d2 result
   lawful law {d} {d2} (Ok r) a = record {
     acts = a;
     keeps = λ s agrees. let did = a.outcome s in law (before s) (history d).state agrees did.fair (after s) (history d2).state a.entries r a.served.legal a.served.state did.step did.part;

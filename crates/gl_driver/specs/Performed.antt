@@ -1,5 +1,5 @@
 -- What a command did, by what it means: to the state of whoever executes it, and to the driver.
-use Rattle.std.specs.Prelude.{◌≡◌, ◌⊎◌, ℕ, true, false, List, [], ◌∷◌, ◌++◌, Option, Some, Result, Ok, Err, IfOk}
+use Rattle.std.specs.Prelude.{◌≡◌, ◌⊎◌, ℕ, true, false, List, [], ◌∷◌, ◌++◌, Some, Result, Ok, Err, IfOk}
 use Rattle.gl_plain.specs.declared.driver_calls.DriverCall.{DriverCall}
 use Rattle.gl_plain.specs.declared.driver_calls.DriverEntry.{DriverEntry}
 use Rattle.gl_plain.specs.declared.calls.Reply.{Reply}
@@ -11,7 +11,8 @@ use Rattle.gl_plain.specs.declared.stop.ExecStop.TheVariants.{Bad, Lost, NoMemor
 use Rattle.gl_plain.specs.Oracle.{Oracle}
 use Rattle.gl_plain.specs.driver.Answers.{told}
 use Rattle.gl_plain.specs.State.{WireState}
-use Rattle.gl_plain.specs.Meaning.{Meaning, meaning_by}
+use Rattle.gl_plain.specs.Meaning.{Meaning, command_meaning}
+use Rattle.gl_plain.specs.Records.{contents_after, step_records}
 use Rattle.gl_plain.specs.Parts.{calls_in, IsPartOf, IsFairFrontOf, IsProperFrontOf}
 use Rattle.gl_plain.specs.Agreement.{Agrees}
 use Rattle.gl_plain.specs.Lawful.{Keeps}
@@ -55,10 +56,11 @@ pub record Acts {D : Type 0} (history : D → History) (grown : D → D → Type
   pub served : Served history grown d d2 entries
   pub outcome : (s : WireState) → IsOutcome (m (before s)) (history d) (history d2) entries (before s) (after s) result
 
--- The whole contract of a family of commands: the command, if one is spelled, did what it means, and keeps to the laws.
-pub record IsLawful {D : Type 0} (history : D → History) (grown : D → D → Type 0) (c : Option Command) (payload : List ℕ) (before after : WireState → WireState) (d d2 : D) (result : Result Reply ExecStop) : Type 0 where
-  pub acts : Acts history grown (λ w. meaning_by w c payload) before after d d2 result
-  pub keeps : IfOk result (λ reply. (s : WireState) → Agrees (before s) (history d).state → Keeps c (before s) (history d).state acts.entries (after s) (history d2).state)
+-- The whole contract of a family of commands: the command with its data did what it means, and keeps to the laws.
+pub record IsLawful {D : Type 0} (history : D → History) (grown : D → D → Type 0) (c : Command) (payload : List ℕ) (before after : WireState → WireState) (d d2 : D) (result : Result Reply ExecStop) : Type 0 where
+  pub acts : Acts history grown (λ w. command_meaning w c payload) before after d d2 result
+  pub keeps : IfOk result (λ reply. (s : WireState) → Agrees (before s) (history d).state
+      → Keeps (contents_after (before s).es c payload) (step_records (before s).es c payload) (history d).state acts.entries (after s) (history d2).state)
 
 -- behind these entries a command goes on as one with another meaning
 pub record Leads {S : Type 0} (m m1 : Meaning S) (entries : List DriverEntry) : Type 0 where

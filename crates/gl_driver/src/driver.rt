@@ -2,14 +2,15 @@
 ghost use Rattle.std.specs.Prelude.{◌≡◌, IfOk};
 ghost use Rattle.gl_plain.specs.driver.Allowed.{IsAllowed};
 ghost use Rattle.gl_plain.specs.driver.Answers.{stored_answer};
-ghost use Rattle.gl_plain.specs.declared.driver_calls.DriverCall.TheVariants.{Object};
+ghost use Rattle.gl_plain.specs.declared.driver_calls.DriverCall.TheVariants.{Object, Program};
 ghost use Rattle.gl_plain.specs.declared.driver_calls.ObjectDriver.TheVariants.{GenBuffer, BindBuffer, BufferData, BufferSubData, DeleteBuffer, VertexAttrib4, VertexAttribPointer, SetArray};
-ghost use Rattle.gl_plain.specs.declared.driver_calls.Answer.TheVariants.{Name};
+ghost use Rattle.gl_plain.specs.declared.driver_calls.ProgramDriver.TheVariants as programs;
+ghost use Rattle.gl_plain.specs.declared.driver_calls.Answer.TheVariants.{Name, Compile, Link, Validate};
 ghost use Rattle.gl_driver.specs.History.{History, Served, Caused, Rose, entered, done};
 
 use crate::stop::DriverStop;
 use gl_base::GlEnum;
-use gl_plain::Stored;
+use gl_plain::{Bytes, LinkAnswer, Stored};
 
 /// A driver of OpenGL ES. Each call says in which state it may be made, and what it enters in the journal: the call with its answer,
 /// or nothing where it stops.
@@ -84,6 +85,94 @@ pub trait Driver {
     fn set_array(&mut self, index: u32, on: bool) -> Result<(), DriverStop>
         requires { IsAllowed (history self.old).state (Object (SetArray index on)) }
         ensures served { Served history grown self.old self.new (entered result (Object (SetArray index on)) done) }
+        ensures cause { Caused (history self.old) (history self.new) result };
+
+    /// A new shader of this kind, under a name that was never given before.
+    fn create_shader(&mut self, kind: GlEnum) -> Result<u64, DriverStop>
+        requires { IsAllowed (history self.old).state (Program (programs.CreateShader kind)) }
+        ensures served { Served history grown self.old self.new (entered result (Program (programs.CreateShader kind)) Name) }
+        ensures cause { Caused (history self.old) (history self.new) result };
+
+    /// A new program, under a name that was never given before.
+    fn create_program(&mut self) -> Result<u64, DriverStop>
+        ensures served { Served history grown self.old self.new (entered result (Program programs.CreateProgram) Name) }
+        ensures cause { Caused (history self.old) (history self.new) result };
+
+    /// Deletes a shader, once no program has it attached.
+    fn delete_shader(&mut self, name: u64) -> Result<(), DriverStop>
+        requires { IsAllowed (history self.old).state (Program (programs.DeleteShader name)) }
+        ensures served { Served history grown self.old self.new (entered result (Program (programs.DeleteShader name)) done) }
+        ensures cause { Caused (history self.old) (history self.new) result };
+
+    /// Deletes a program, once it is not current.
+    fn delete_program(&mut self, name: u64) -> Result<(), DriverStop>
+        requires { IsAllowed (history self.old).state (Program (programs.DeleteProgram name)) }
+        ensures served { Served history grown self.old self.new (entered result (Program (programs.DeleteProgram name)) done) }
+        ensures cause { Caused (history self.old) (history self.new) result };
+
+    /// Gives a shader its source.
+    fn shader_source(&mut self, name: u64, bytes: &[u8]) -> Result<(), DriverStop>
+        requires { IsAllowed (history self.old).state (Program (programs.ShaderSource name bytes.now)) }
+        ensures served { Served history grown self.old self.new (entered result (Program (programs.ShaderSource name bytes.now)) done) }
+        ensures cause { Caused (history self.old) (history self.new) result };
+
+    /// Compiles a shader. The answer is whether it went well, and the log.
+    fn compile_shader(&mut self, name: u64) -> Result<(bool, Bytes), DriverStop>
+        requires { IsAllowed (history self.old).state (Program (programs.CompileShader name)) }
+        ensures served { Served history grown self.old self.new (entered result (Program (programs.CompileShader name)) (λ said. Compile said.0 said.1)) }
+        ensures cause { Caused (history self.old) (history self.new) result };
+
+    /// Attaches a shader to a program.
+    fn attach_shader(&mut self, program: u64, shader: u64) -> Result<(), DriverStop>
+        requires { IsAllowed (history self.old).state (Program (programs.AttachShader program shader)) }
+        ensures served { Served history grown self.old self.new (entered result (Program (programs.AttachShader program shader)) done) }
+        ensures cause { Caused (history self.old) (history self.new) result };
+
+    /// Detaches a shader from a program.
+    fn detach_shader(&mut self, program: u64, shader: u64) -> Result<(), DriverStop>
+        requires { IsAllowed (history self.old).state (Program (programs.DetachShader program shader)) }
+        ensures served { Served history grown self.old self.new (entered result (Program (programs.DetachShader program shader)) done) }
+        ensures cause { Caused (history self.old) (history self.new) result };
+
+    /// Asks for the location of an attribute of this name, from the next link on.
+    fn bind_attrib_location(
+        &mut self,
+        program: u64,
+        index: u32,
+        name: &[u8],
+    ) -> Result<(), DriverStop>
+        requires { IsAllowed (history self.old).state (Program (programs.BindAttribLocation program index name.now)) }
+        ensures served { Served history grown self.old self.new (entered result (Program (programs.BindAttribLocation program index name.now)) done) }
+        ensures cause { Caused (history self.old) (history self.new) result };
+
+    /// Links a program. The answer is what the linker says.
+    fn link_program(&mut self, name: u64) -> Result<LinkAnswer, DriverStop>
+        requires { IsAllowed (history self.old).state (Program (programs.LinkProgram name)) }
+        ensures served { Served history grown self.old self.new (entered result (Program (programs.LinkProgram name)) Link) }
+        ensures cause { Caused (history self.old) (history self.new) result };
+
+    /// Validates a program. The answer is whether it went well, and the log.
+    fn validate_program(&mut self, name: u64) -> Result<(bool, Bytes), DriverStop>
+        requires { IsAllowed (history self.old).state (Program (programs.ValidateProgram name)) }
+        ensures served { Served history grown self.old self.new (entered result (Program (programs.ValidateProgram name)) (λ said. Validate said.0 said.1)) }
+        ensures cause { Caused (history self.old) (history self.new) result };
+
+    /// Makes a program current, or none by 0.
+    fn use_program(&mut self, name: u64) -> Result<(), DriverStop>
+        requires { IsAllowed (history self.old).state (Program (programs.UseProgram name)) }
+        ensures served { Served history grown self.old self.new (entered result (Program (programs.UseProgram name)) done) }
+        ensures cause { Caused (history self.old) (history self.new) result };
+
+    /// Gives elements of a uniform their values, from a location on, in the executable that is in use.
+    fn uniform(
+        &mut self,
+        location: i32,
+        kind: u32,
+        count: i32,
+        bytes: &[u8],
+    ) -> Result<(), DriverStop>
+        requires { IsAllowed (history self.old).state (Program (programs.Uniform location kind count bytes.now)) }
+        ensures served { Served history grown self.old self.new (entered result (Program (programs.Uniform location kind count bytes.now)) done) }
         ensures cause { Caused (history self.old) (history self.new) result };
 
     ghost grown_itself: { (a : Self) → grown a a };

@@ -1,27 +1,23 @@
 -- The own laws of the commands on vertex attributes.
-use Rattle.std.proofs.Common.{◌≡◌, ◌≤◌, ℕ, ◌==◌, Bool, true, false, List, [], ◌∷◌, ◌++◌, None, refl, ap, arith}
+use Rattle.std.proofs.Common.{◌≡◌, ◌≤◌, ℕ, true, false, List, [], ◌∷◌, None, refl, ap, arith}
 use Rattle.gl_base.specs.declared.float_bits.FloatBits.{FloatBits}
 use Rattle.gl_base.specs.declared.limits.TheConstants.{LAST_ATTRIBUTE}
-use Rattle.gl_plain.specs.declared.attributes.ArraySpec.{ArraySpec}
 use Rattle.gl_plain.specs.declared.attributes.VertexAttributes.{VertexAttributes}
 use Rattle.gl_plain.specs.declared.commands.ArrayWords.{ArrayWords}
-use Rattle.gl_plain.specs.declared.commands.ObjectCommand.{ObjectCommand}
 use Rattle.gl_plain.specs.declared.commands.ObjectCommand.TheVariants.{VertexAttrib4f, VertexAttribPointer, EnableVertexAttribArray, DisableVertexAttribArray}
-use Rattle.gl_plain.specs.declared.driver_calls.Answer.{Answer}
 use Rattle.gl_plain.specs.declared.driver_calls.DriverCall.{DriverCall}
 use Rattle.gl_plain.specs.declared.driver_calls.DriverCall.TheVariants.{Object}
 use Rattle.gl_plain.specs.declared.driver_calls.DriverEntry.{DriverEntry}
 use Rattle.gl_plain.specs.declared.driver_calls.ObjectDriver.TheVariants as calls
 use Rattle.gl_plain.specs.subjects.Attributes.{attribute_refusal, vertex_attrib_4f_effect, vertex_attrib_pointer_effect, vertex_attrib_pointer_refusal, set_array_effect, object_of}
 use Rattle.gl_plain.specs.Words.{natural}
-use Rattle.gl_plain.specs.Oracle.{Oracle}
 use Rattle.gl_plain.specs.State.{EsState, DriverTables, DriverState}
 use Rattle.gl_plain.specs.driver.Allowed.{IsAllowed}
 use Rattle.gl_plain.specs.driver.Answers.{told}
-use Rattle.gl_plain.specs.Journal.{IsLegal, state_after}
+use Rattle.gl_plain.specs.Journal.{state_after}
 use Rattle.gl_plain.specs.Agreement.{TablesAgree}
 use Rattle.gl_plain.specs.object.Step.{object_step}
-use Rattle.gl_laws.proofs.Lists.{entry, one_entry, front_of_one}
+use Rattle.gl_laws.proofs.Lists.{one_entry, front_of_one}
 use Rattle.gl_laws.proofs.OwnLaws.{StepLeft, OwnMayGoOn, OwnLeaves}
 
 -- an index that is not refused
@@ -30,7 +26,7 @@ index_within index allowed = grind arith
 
 -- the tables with other attributes
 with_attributes : (s : EsState) (t : DriverTables) (x y : VertexAttributes) → TablesAgree s t → x ≡ y → TablesAgree (record s { attribs = x }) (record t { attribs = y })
-with_attributes s t x y a same = record { surface = a.surface; buffers = a.buffers; attribs = same }
+with_attributes s t x y a same = record { surface = a.surface; buffers = a.buffers; attribs = same; programs = a.programs }
 
 module _ (s : EsState) (d : DriverState) (a : TablesAgree s d.tables) (index : ℕ) (payload : List ℕ) where
   -- VertexAttrib4f

@@ -5,10 +5,10 @@ use Rattle.std.proofs.lemmas.Bool.Decides.{eqb_tells}
 use Rattle.gl_base.proofs.Found.{get-insert_here}
 use Rattle.gl_plain.specs.declared.objects.Name as names
 use Rattle.gl_plain.specs.declared.driver_calls.Answer.{Answer}
-use Rattle.gl_plain.specs.declared.driver_calls.Answer.TheVariants.{Done, Name, Oom}
+use Rattle.gl_plain.specs.declared.driver_calls.Answer.TheVariants.{Name}
 use Rattle.gl_plain.specs.declared.driver_calls.DriverCall.{DriverCall}
 use Rattle.gl_plain.specs.declared.driver_calls.DriverEntry.{DriverEntry}
-use Rattle.gl_plain.specs.subjects.Names.{Names, new_name, named, IsLive, IsFresh}
+use Rattle.gl_plain.specs.subjects.Names.{Names, new_name, IsLive, IsFresh}
 use Rattle.gl_plain.specs.Oracle.{Oracle, first, behind, led_by}
 use Rattle.gl_plain.specs.State.{EsState, DriverTables, DriverState}
 use Rattle.gl_plain.specs.Spaces.{Space, Buffers, names_in, with_name, numbers_in, with_numbers, gen_call, given_in, with_given}
@@ -16,7 +16,7 @@ use Rattle.gl_plain.specs.Outcome.{Outcome, leaves}
 use Rattle.gl_plain.specs.driver.Allowed.{IsAllowed}
 use Rattle.gl_plain.specs.driver.Answers.{told, told_call, told_number}
 use Rattle.gl_plain.specs.driver.Effect.{tables_after, contents_after_call, driver_after}
-use Rattle.gl_plain.specs.Journal.{IsLegal, state_after, records_in}
+use Rattle.gl_plain.specs.Journal.{IsLegal, state_after}
 use Rattle.gl_plain.specs.Records.{call_records}
 use Rattle.gl_plain.specs.Parts.{calls_in}
 use Rattle.gl_plain.specs.Agreement.{TablesAgree}
@@ -32,7 +32,7 @@ live_in Buffers t = t.buffers.names
 
 -- a new name
 pub agree_gen : (space : Space) (s : EsState) (t : DriverTables) → TablesAgree s t → (id n : ℕ) → map.get (names_in space s) id ≡ None → id ≢ 0 → IsFresh (given_in space t.given) n → TablesAgree (with_name space id n s) (with_given space n t)
-agree_gen Buffers s t a id n free positive fresh = record { surface = a.surface; buffers = agree_named s.buffers t.buffers t.given.buffers a.buffers id n free positive fresh; attribs = a.attribs }
+agree_gen Buffers s t a id n free positive fresh = record { surface = a.surface; buffers = agree_named s.buffers t.buffers t.given.buffers a.buffers id n free positive fresh; attribs = a.attribs; programs = a.programs }
 
 -- it is in use
 pub known_name : (space : Space) (s : EsState) (id n : ℕ) → map.get (names_in space (with_name space id n s)) id ≡ Some (new_name n)
@@ -55,8 +55,7 @@ gen_allowed Buffers d = tt
 -- an answer to a Gen is a new name
 gen_answered : (space : Space) (d : DriverState) (P : Answer → Type 0) → ((n : ℕ) → IsFresh (given_in space d.tables.given) n → P (Name n)) → (answer : Answer) (es : List DriverEntry) → IsLegal d (entry (gen_call space) answer ∷ es) → P answer
 gen_answered Buffers d P f (Name n) es l = f n l.0.answered
-gen_answered Buffers d P f Done es l = absurd l.0.answered
-gen_answered Buffers d P f Oom es l = absurd l.0.answered
+gen_answered Buffers d P f answer es l = absurd l.0.answered
 
 gen_after : (space : Space) (d : DriverState) (n : ℕ) → driver_after d (gen_call space) (Name n) ≡ record { tables = with_given space n d.tables; contents = d.contents }
 gen_after Buffers d n = refl

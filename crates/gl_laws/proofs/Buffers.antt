@@ -1,5 +1,5 @@
 -- The own laws of the commands on buffers.
-use Rattle.std.proofs.Common.{◌≡◌, ◌≢◌, ◌≤◌, ◌⊎◌, inl, inr, ℕ, ℤ, ◌==◌, Bool, true, false, not, ◌||◌, ◌&&◌, if◌then◌else◌, List, [], ◌∷◌, ◌++◌, length, Option, None, Some, IsSome, IsTrue, is_some, refl, sym, ap, ◌∙◌, subst, arith}
+use Rattle.std.proofs.Common.{◌≡◌, ◌≢◌, ◌≤◌, ℕ, ℤ, ◌==◌, true, false, not, ◌||◌, ◌&&◌, if◌then◌else◌, List, [], ◌∷◌, ◌++◌, length, Option, None, Some, IsSome, IsTrue, is_some, refl, sym, ap, subst, arith}
 use Rattle.std.specs.FinMap as map
 use Rattle.std.proofs.lemmas.List.{length-replicate}
 use Rattle.gl_base.specs.declared.gl_enum.GlEnum.{GlEnum}
@@ -7,7 +7,6 @@ use Rattle.gl_base.specs.declared.limits.TheConstants.{DATA_LIMIT}
 use Rattle.gl_base.specs.Names.{is_ordinary, is_reserved}
 use Rattle.gl_plain.specs.declared.objects.Name as names
 use Rattle.gl_plain.specs.declared.objects.Buffer.{Buffer}
-use Rattle.gl_plain.specs.declared.errors.GlError.{GlError}
 use Rattle.gl_plain.specs.declared.calls.Payload.TheVariants.{Absent, Here}
 use Rattle.gl_plain.specs.declared.commands.DataWords.{DataWords}
 use Rattle.gl_plain.specs.declared.commands.ObjectCommand.TheVariants.{GenBuffers, BindBuffer, BufferData, BufferSubData, DeleteBuffers}
@@ -18,38 +17,30 @@ use Rattle.gl_plain.specs.declared.driver_calls.DriverCall.TheVariants.{Object}
 use Rattle.gl_plain.specs.declared.driver_calls.DriverEntry.{DriverEntry}
 use Rattle.gl_plain.specs.declared.driver_calls.ObjectDriver.TheVariants as calls
 use Rattle.gl_plain.specs.Words.{natural, is_negative}
-use Rattle.gl_plain.specs.subjects.Names.{IsLive, IsFresh, new_name}
-use Rattle.gl_plain.specs.subjects.Data.{IsData, has_no_data, has_needed_data, has_just_needed_data, data_needed, payload_of, bytes_of}
-use Rattle.gl_plain.specs.subjects.Buffers.{BufferTables, is_buffer_target, is_usage, bound, gen_buffers_is_bad, bind_buffer_refusal, bind_buffer_effect, buffer_data_is_bad, buffer_data_refusal, buffer_data_effect, buffer_sub_data_is_bad, buffer_sub_data_refusal, buffer_sub_data_effect, range_refusal, HasRange, delete_buffers_calls, BuffersAgree}
+use Rattle.gl_plain.specs.subjects.Data.{IsData, has_needed_data, has_just_needed_data, data_needed, payload_of, bytes_of}
+use Rattle.gl_plain.specs.subjects.Buffers.{BufferTables, is_buffer_target, is_usage, bound, gen_buffers_is_bad, bind_buffer_refusal, bind_buffer_effect, buffer_data_is_bad, buffer_data_refusal, buffer_sub_data_is_bad, buffer_sub_data_refusal, range_refusal, HasRange, delete_buffers_calls, BuffersAgree}
 use Rattle.gl_plain.specs.subjects.Attributes.{all_outside}
 use Rattle.gl_plain.specs.Oracle.{Oracle}
 use Rattle.gl_plain.specs.State.{EsState, DriverTables, DriverState}
 use Rattle.gl_plain.specs.Spaces.{Buffers}
 use Rattle.gl_plain.specs.driver.Allowed.{IsAllowed}
 use Rattle.gl_plain.specs.driver.Answers.{told}
-use Rattle.gl_plain.specs.Journal.{IsLegal, state_after, records_in}
+use Rattle.gl_plain.specs.Journal.{IsLegal, state_after}
 use Rattle.gl_plain.specs.Parts.{calls_in}
 use Rattle.gl_plain.specs.Agreement.{TablesAgree}
 use Rattle.gl_plain.specs.Outcome.{leaves}
 use Rattle.gl_plain.specs.declared.attributes.VertexAttributes.{VertexAttributes}
 use Rattle.gl_plain.specs.object.Step.{bind_outcome, object_step, buffer_deleted_by}
-use Rattle.gl_plain.specs.object.Calls.{own_object_calls, bind_buffer_call}
+use Rattle.gl_plain.specs.object.Calls.{bind_buffer_call}
 use Rattle.gl_plain.proofs.BuffersAgree.{agree_bind, agree_unbind, same_bound, agree_stored, agree_changed, agree_deleted}
 use Rattle.gl_laws.proofs.Lists.{entry, no_entry, one_entry, front_of_one, not_nil}
 use Rattle.gl_laws.proofs.OwnLaws.{StepLeft, OwnMayGoOn, OwnLeaves}
-use Rattle.gl_laws.proofs.Binds.{IsBind, agree_gen, some_is, not_zero, bind_may, bind_leaves}
-
-or_false : (p q : Bool) → (p || q) ≡ false → (p ≡ false) × (q ≡ false)
-or_false true q h = absurd (cc)
-or_false false q h = (refl, h)
-
-none_of : (o : Option names.Name) → is_some o ≡ false → o ≡ None
-none_of None h = refl
-none_of (Some x) h = absurd (cc)
+use Rattle.gl_laws.proofs.Refusals.{or_false, not_false, none_of, none_refused}
+use Rattle.gl_laws.proofs.Binds.{IsBind, agree_gen, some_is, bind_may, bind_leaves}
 
 -- the tables with other buffers
 with_buffers : (s : EsState) (t : DriverTables) (b c : BufferTables) → TablesAgree s t → BuffersAgree b c t.given.buffers → TablesAgree (record s { buffers = b }) (record t { buffers = c })
-with_buffers s t b c a agree = record { surface = a.surface; buffers = agree; attribs = a.attribs }
+with_buffers s t b c a agree = record { surface = a.surface; buffers = agree; attribs = a.attribs; programs = a.programs }
 
 -- GenBuffers
 module _ (s : EsState) (d : DriverState) (a : TablesAgree s d.tables) (id : ℕ) (payload : List ℕ) (fair : gen_buffers_is_bad s.buffers.names id ≡ false) where
@@ -64,17 +55,12 @@ module _ (s : EsState) (d : DriverState) (a : TablesAgree s d.tables) (id : ℕ)
 
   gen_by : (o : Oracle) (answer : Answer) → IsLegal d (entry (Object calls.GenBuffer) answer ∷ []) → StepLeft d (object_step s (GenBuffers id) payload (told (entry (Object calls.GenBuffer) answer ∷ []) o)) o (entry (Object calls.GenBuffer) answer ∷ [])
   gen_by o (Name n) l = record { asked = refl; agrees = agree_gen Buffers s d.tables a id n free positive l.0.answered; contents = refl; records = refl }
-  gen_by o Done l = absurd l.0.answered
-  gen_by o Oom l = absurd l.0.answered
+  gen_by o answer l = absurd l.0.answered
 
   pub gen_leaves : OwnLeaves s d (GenBuffers id) payload
   gen_leaves o es l h = one_entry (λ (gs : List DriverEntry). IsLegal d gs → StepLeft d (object_step s (GenBuffers id) payload (told gs o)) o gs) (Object calls.GenBuffer) (gen_by o) es h l
 
 -- BindBuffer
-target_is : (b c : Bool) (e f : GlError) → (if not b then Some e else if c then Some f else None) ≡ None → b ≡ true
-target_is true c e f h = refl
-target_is false c e f h = absurd (cc)
-
 buffer_bind : (target : GlEnum) (id : ℕ) → is_buffer_target target ≡ true → IsBind Buffers (bind_buffer_call target) (λ (s : EsState). record s { buffers = bind_buffer_effect s.buffers target id }) id
 buffer_bind target id is = record {
   asks_nothing = λ name answer o. refl;
@@ -87,7 +73,7 @@ buffer_bind target id is = record {
 
 module _ (s : EsState) (d : DriverState) (a : TablesAgree s d.tables) (target : GlEnum) (id : ℕ) (payload : List ℕ) (allowed : bind_buffer_refusal s.buffers target id ≡ None) where
   buffer_bind_here : IsBind Buffers (bind_buffer_call target) (λ (s : EsState). record s { buffers = bind_buffer_effect s.buffers target id }) id
-  buffer_bind_here = buffer_bind target id (target_is (is_buffer_target target) _ _ _ allowed)
+  buffer_bind_here = buffer_bind target id (not_false (is_buffer_target target) (none_refused (not (is_buffer_target target)) _ _ _ allowed).0)
 
   pub bind_buffer_may : OwnMayGoOn s d (BindBuffer target id) payload
   bind_buffer_may o es next more l h = bind_may Buffers (bind_buffer_call target) (λ (s : EsState). record s { buffers = bind_buffer_effect s.buffers target id }) id buffer_bind_here s d a o es next more l h
@@ -111,16 +97,16 @@ data_taken : (t : BufferTables) (target : GlEnum) (size : ℤ) (usage : GlEnum) 
 data_taken t target size usage allowed = grind arith
 
 -- data that is needed is no more than the limit
-needed_within : (words : DataWords) (payload : List ℕ) (size : ℤ) → not (has_needed_data words (data_needed size)) ≡ false → (words.source ≡ 1 → length payload ≡ words.count) → natural size ≤ DATA_LIMIT → length payload ≤ DATA_LIMIT
-needed_within words payload size fair known limit = grind arith
+needed_within : (words : DataWords) (payload : List ℕ) (size : ℤ) → not (has_needed_data words (data_needed size)) ≡ false → (words.source ≡ 1 → length payload ≡ words.count) → (words.source ≡ 2 → length payload ≡ words.count) → natural size ≤ DATA_LIMIT → length payload ≤ DATA_LIMIT
+needed_within words payload size fair known bucket limit = grind arith
 
 -- the bytes are no more than the limit
-bytes_within : (words : DataWords) (payload : List ℕ) (size : ℤ) → buffer_data_is_bad size words ≡ false → (words.source ≡ 1 → length payload ≡ words.count) → natural size ≤ DATA_LIMIT
+bytes_within : (words : DataWords) (payload : List ℕ) (size : ℤ) → buffer_data_is_bad size words ≡ false → (words.source ≡ 1 → length payload ≡ words.count) → (words.source ≡ 2 → length payload ≡ words.count) → natural size ≤ DATA_LIMIT
     → length (bytes_of (payload_of words payload) size) ≤ DATA_LIMIT
-bytes_within words payload size fair known limit =
+bytes_within words payload size fair known bucket limit =
     elim (words.source == 0) as (λ b. not ((b && (words.count == 0) && (words.a == 0) && (words.b == 0)) || has_needed_data words (data_needed size)) ≡ false → length (bytes_of (if b then Absent else Here payload) size) ≤ DATA_LIMIT) [
       | true ↦ λ fair. rw (length-replicate {A = ℕ} (natural size) 0) limit
-      | false ↦ λ fair. needed_within words payload size fair known limit
+      | false ↦ λ fair. needed_within words payload size fair known bucket limit
     ] fair
 
 module _ (s : EsState) (d : DriverState) (a : TablesAgree s d.tables) (target : GlEnum) (size : ℤ) (usage : GlEnum) (words : DataWords) (payload : List ℕ) (allowed : buffer_data_refusal s.buffers target size usage ≡ None) where
@@ -134,7 +120,7 @@ module _ (s : EsState) (d : DriverState) (a : TablesAgree s d.tables) (target : 
         taken.target_is,
         taken.usage_is,
         subst (λ (b : Option Buffer). IsSome b) (same_bound s.buffers d.tables.buffers d.tables.given.buffers a.buffers target) taken.binds,
-        bytes_within words payload size fair given.shared taken.limit,
+        bytes_within words payload size fair given.shared given.bucket taken.limit,
       ) es next more h
 
   data_by : (o : Oracle) (answer : Answer) → IsLegal d (entry (Object (calls.BufferData target (bytes_of (payload_of words payload) size) usage)) answer ∷ [])
@@ -145,8 +131,8 @@ module _ (s : EsState) (d : DriverState) (a : TablesAgree s d.tables) (target : 
     contents = refl;
     records = refl;
   }
-  data_by o Oom l = record { asked = refl; agrees = record { surface = a.surface; buffers = a.buffers; attribs = a.attribs }; contents = refl; records = refl }
-  data_by o (Name n) l = absurd l.0.answered
+  data_by o Oom l = record { asked = refl; agrees = record { surface = a.surface; buffers = a.buffers; attribs = a.attribs; programs = a.programs }; contents = refl; records = refl }
+  data_by o answer l = absurd l.0.answered
 
   pub buffer_data_leaves : OwnLeaves s d (BufferData target size usage words) payload
   buffer_data_leaves o es l h = one_entry (λ (gs : List DriverEntry). IsLegal d gs → StepLeft d (object_step s (BufferData target size usage words) payload (told gs o)) o gs)
@@ -155,9 +141,9 @@ module _ (s : EsState) (d : DriverState) (a : TablesAgree s d.tables) (target : 
 -- BufferSubData
 
 -- data that is needed is no longer than the size says
-count_within : (words : DataWords) (payload : List ℕ) (size : ℤ) → not (has_just_needed_data words (data_needed size)) ≡ false → (words.source ≡ 1 → length payload ≡ words.count) → (words.source ≡ 0 → length payload ≡ 0)
+count_within : (words : DataWords) (payload : List ℕ) (size : ℤ) → not (has_just_needed_data words (data_needed size)) ≡ false → (words.source ≡ 1 → length payload ≡ words.count) → (words.source ≡ 2 → length payload ≡ words.count) → (words.source ≡ 0 → length payload ≡ 0)
     → length payload ≤ natural size
-count_within words payload size fair known nothing = grind arith
+count_within words payload size fair known bucket nothing = grind arith
 
 inside_of : (there : Option Buffer) (offset size count : ℕ) → count ≤ size → range_refusal there offset size ≡ None → HasRange there offset count
 inside_of None offset size count less inside = absurd (cc)
@@ -177,7 +163,7 @@ module _ (s : EsState) (d : DriverState) (a : TablesAgree s d.tables) (target : 
   buffer_sub_data_may fair given o es next more l h =
       let taken = part_taken s.buffers target offset size allowed in
       let range : HasRange (bound s.buffers target) (natural offset) (length payload) =
-      inside_of (bound s.buffers target) (natural offset) (natural size) (length payload) (count_within words payload size fair given.shared given.none) taken.inside in
+      inside_of (bound s.buffers target) (natural offset) (natural size) (length payload) (count_within words payload size fair given.shared given.bucket given.none) taken.inside in
       front_of_one (λ (gs : List DriverEntry) (x : DriverCall). IsAllowed (state_after d gs) x) (Object (calls.BufferSubData target offset payload))
       (taken.target_is, taken.positive, subst (λ (b : Option Buffer). HasRange b (natural offset) (length payload)) (same_bound s.buffers d.tables.buffers d.tables.given.buffers a.buffers target) range) es next more h
 
@@ -209,6 +195,7 @@ module _ (s : EsState) (d : DriverState) (a : TablesAgree s d.tables) (id : ℕ)
           surface = a.surface;
           buffers = agree_deleted s.buffers d.tables.buffers d.tables.given.buffers a.buffers id x e;
           attribs = ap (λ (t : VertexAttributes). all_outside t x.number) a.attribs;
+          programs = a.programs;
         };
         contents = refl;
         records = refl;

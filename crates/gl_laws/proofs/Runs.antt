@@ -8,7 +8,9 @@ use Rattle.gl_plain.specs.Oracle.{Oracle}
 use Rattle.gl_plain.specs.driver.Answers.{told}
 use Rattle.gl_plain.specs.State.{WireState, DriverState}
 use Rattle.gl_plain.specs.Commands.{command_of}
-use Rattle.gl_plain.specs.Meaning.{Meaning, meaning_by, meaning_of}
+use Rattle.gl_plain.specs.Meaning.{Meaning, meaning_if, meaning_by, meaning_of}
+use Rattle.gl_plain.specs.subjects.Buckets.{breaks_bucket_rule}
+use Rattle.gl_plain.specs.Wire.{data_words, given_to}
 use Rattle.gl_plain.specs.Journal.{IsLegal, state_after, records_in}
 use Rattle.gl_plain.specs.Parts.{calls_in, IsPartOf, AreParts}
 use Rattle.gl_plain.specs.Records.{Record, contents_behind, records_made, run_records}
@@ -17,24 +19,31 @@ use Rattle.gl_plain.proofs.Journals.{told-append}
 use Rattle.gl_laws.proofs.Lists.{legal_split, records-append}
 use Rattle.gl_laws.proofs.Commands.{leaves_it}
 
--- what the part of a command leaves, if one is spelled
-record PartLeft (w : WireState) (d : DriverState) (c : Option Command) (payload : List ℕ) (before after : Oracle) (es : List DriverEntry) : Type 0 where
-  pub asked : ((meaning_by w c payload).step before).oracle ≡ after
-  pub agrees : Agrees ((meaning_by w c payload).step before).state (state_after d es)
-  pub contents : read_contents (state_after d es).contents ≡ contents_behind w.es c before (read_contents d.contents)
-  pub records : records_in d es ≡ records_made w.es c before (read_contents d.contents)
+-- what the part of a command leaves, if one is spelled, by what it means
+record PartLeft (m : Meaning WireState) (w : WireState) (d : DriverState) (c : Option Command) (payload : List ℕ) (before after : Oracle) (es : List DriverEntry) : Type 0 where
+  pub asked : (m.step before).oracle ≡ after
+  pub agrees : Agrees (m.step before).state (state_after d es)
+  pub contents : read_contents (state_after d es).contents ≡ contents_behind w c payload before (read_contents d.contents)
+  pub records : records_in d es ≡ records_made w c payload before (read_contents d.contents)
+
+-- where it may break a rule of its bucket
+left_if : (broken : Bool) (w : WireState) (d : DriverState) (c : Command) (payload : List ℕ) → Agrees w d → (meaning_if broken w c payload).bad ≡ false → (o : Oracle) (es : List DriverEntry) → IsLegal d es
+    → calls_in es ≡ (meaning_if broken w c payload).calls (told es o) → PartLeft (meaning_if broken w c payload) w d (Some c) payload (told es o) o es
+left_if true w d c payload a fair o es l h = absurd (cc)
+left_if false w d c payload a fair o es l h =
+    let left = leaves_it w d a c (given_to w c payload) fair o es l h in record { asked = left.asked; agrees = left.agrees; contents = left.contents; records = left.records }
 
 part_left : (w : WireState) (d : DriverState) (c : Option Command) (payload : List ℕ) → Agrees w d → (meaning_by w c payload).bad ≡ false → (o : Oracle) (es : List DriverEntry) → IsLegal d es → calls_in es ≡ (meaning_by w c payload).calls (told es o)
-    → PartLeft w d c payload (told es o) o es
+    → PartLeft (meaning_by w c payload) w d c payload (told es o) o es
 part_left w d None payload a fair o es l h = absurd (cc)
-part_left w d (Some c) payload a fair o es l h = let left = leaves_it w d a c payload fair o es l h in record { asked = left.asked; agrees = left.agrees; contents = left.contents; records = left.records }
+part_left w d (Some c) payload a fair o es l h = left_if (breaks_bucket_rule w.buckets (data_words c)) w d c payload a fair o es l h
 
 abbrev HasParts : Bool → WireState → Fetched → List Fetched → Oracle → List DriverEntry → Type 0
 HasParts bad w f fs o entries = MatchBool bad (entries ≡ [])
     ((part rest : List DriverEntry) × (entries ≡ part ++ rest) × IsPartOf (meaning_of w f).calls o part × AreParts ((meaning_of w f).step o).state fs ((meaning_of w f).step o).oracle rest)
 
 abbrev records_by : Bool → WireState → Contents → Fetched → List Fetched → Oracle → List Record
-records_by bad w k f fs o = if bad then [] else records_made w.es (command_of f) o k ++ run_records ((meaning_of w f).step o).state (contents_behind w.es (command_of f) o k) fs ((meaning_of w f).step o).oracle
+records_by bad w k f fs o = if bad then [] else records_made w (command_of f) f.payload o k ++ run_records ((meaning_of w f).step o).state (contents_behind w (command_of f) f.payload o k) fs ((meaning_of w f).step o).oracle
 
 abbrev RunLaw : List Fetched → Type 0
 RunLaw fs = (w : WireState) (d : DriverState) (o : Oracle) (entries : List DriverEntry) → Agrees w d → IsLegal d entries → AreParts w fs (told entries o) entries
@@ -51,7 +60,7 @@ module _ (f : Fetched) (fs : List Fetched) (law : RunLaw fs) (w : WireState) (d 
       (subst (λ (t : Oracle). AreParts ((meaning_of w f).step (told part (told rest o))).state fs t rest) left.asked others) in
       records-append d part rest
       ∙ (λ i. left.records i ++ later i)
-      ∙ (λ i. records_made w.es (command_of f) (told part (told rest o)) (read_contents d.contents) ++ run_records ((meaning_of w f).step (told part (told rest o))).state (left.contents i) fs (sym left.asked i))
+      ∙ (λ i. records_made w (command_of f) f.payload (told part (told rest o)) (read_contents d.contents) ++ run_records ((meaning_of w f).step (told part (told rest o))).state (left.contents i) fs (sym left.asked i))
 
   by_bad : (entries : List DriverEntry) → IsLegal d entries → (b : Bool) → (meaning_of w f).bad ≡ b → HasParts b w f fs (told entries o) entries → records_in d entries ≡ records_by b w (read_contents d.contents) f fs (told entries o)
   by_bad entries l true is p = ap (records_in d) p

@@ -1,5 +1,5 @@
 -- The laws of a command: what its driver calls are and leave, by the definitions alone.
-use Rattle.std.specs.Prelude.{◌≡◌, ℕ, List, [], ◌∷◌, ◌++◌}
+use Rattle.std.specs.Prelude.{◌≡◌, ℕ, List, ◌∷◌, ◌++◌}
 use Rattle.gl_plain.specs.declared.commands.Command.{Command}
 use Rattle.gl_plain.specs.declared.driver_calls.DriverCall.{DriverCall}
 use Rattle.gl_plain.specs.declared.driver_calls.DriverEntry.{DriverEntry}
@@ -23,8 +23,8 @@ pub record Left (w : WireState) (d : DriverState) (c : Command) (payload : List 
   -- the step took just the answers of these entries
   pub asked : (wire_step w c payload before).oracle ≡ after
   pub agrees : Agrees (wire_step w c payload before).state (state_after d es)
-  pub contents : read_contents (state_after d es).contents ≡ contents_after w.es c before (read_contents d.contents)
-  pub records : records_in d es ≡ step_records w.es c before (read_contents d.contents)
+  pub contents : read_contents (state_after d es).contents ≡ contents_after w.es c payload before (read_contents d.contents)
+  pub records : records_in d es ≡ step_records w.es c payload before (read_contents d.contents)
 
 -- a command leaves that behind its driver calls, whatever they were answered
 abbrev pub Leaves : WireState → DriverState → Command → List ℕ → Type 0

@@ -5,5 +5,7 @@ pub mod Opening
 pub mod Journals
 pub mod Fronts
 mod Rows
+mod ProgramRows
 pub mod Keys
 pub mod Digits
+pub mod SoundAnswers

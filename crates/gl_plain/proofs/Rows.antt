@@ -25,8 +25,8 @@ use Rattle.gl_plain.specs.Commands.{command_in, is_known}
 use Rattle.gl_plain.specs.Wire.{is_bad}
 
 -- which commands are built so far
-built : (is_known 0 ≡ true) × (is_known 1 ≡ true) × (is_known 2 ≡ false) × (is_known 256 ≡ false) × (is_known 261 ≡ true) × (is_known 262 ≡ false) × (is_known 292 ≡ false) × (is_known 296 ≡ true) × (is_known 297 ≡ false) × (is_known 327 ≡ true)
-built = (refl, refl, refl, refl, refl, refl, refl, refl, refl, refl)
+built : (is_known 0 ≡ true) × (is_known 1 ≡ true) × (is_known 2 ≡ true) × (is_known 5 ≡ true) × (is_known 6 ≡ false) × (is_known 256 ≡ false) × (is_known 261 ≡ true) × (is_known 262 ≡ false) × (is_known 279 ≡ false) × (is_known 280 ≡ true) × (is_known 292 ≡ true) × (is_known 296 ≡ true) × (is_known 297 ≡ false) × (is_known 327 ≡ true)
+built = (refl, refl, refl, refl, refl, refl, refl, refl, refl, refl, refl, refl, refl, refl)
 
 abbrev enum : ℕ → GlEnum
 enum n = record { 0 = n }
@@ -59,11 +59,11 @@ first_bind = rw (get-insert_here (map.empty {X = Name} {R = nat_cmp}) 7 (new_nam
 abbrev data_words : ℕ → ℕ → ℕ → ℕ → DataWords
 data_words source count a b = record { source = source; count = count; a = a; b = b }
 
--- no data, and data in shared memory of as many bytes as are needed: none where the size is negative or above the limit
+-- no data, and data in shared memory or in a bucket of as many bytes as are needed: none where the size is negative or above the limit
 data_rules : (has_no_data (data_words 0 0 0 0) ≡ true) × (has_no_data (data_words 0 0 0 1) ≡ false) × (has_needed_data (data_words 1 4 9 9) (data_needed (pos 4)) ≡ true)
-    × (has_needed_data (data_words 1 3 0 0) (data_needed (pos 4)) ≡ false) × (has_needed_data (data_words 2 4 0 0) (data_needed (pos 4)) ≡ false)
+    × (has_needed_data (data_words 1 3 0 0) (data_needed (pos 4)) ≡ false) × (has_needed_data (data_words 2 4 0 0) (data_needed (pos 4)) ≡ true) × (has_needed_data (data_words 3 4 0 0) (data_needed (pos 4)) ≡ false)
     × (data_needed (negsuc 3) ≡ 0) × (data_needed (pos 67108864) ≡ 67108864) × (data_needed (pos 67108865) ≡ 0)
-data_rules = (refl, refl, refl, refl, refl, refl, refl, refl)
+data_rules = (refl, refl, refl, refl, refl, refl, refl, refl, refl)
 
 -- a token has 31 bits
 tokens : (is_bad (opening_wire (64, 64)) (SetToken 0x7FFFFFFF) ≡ false) × (is_bad (opening_wire (64, 64)) (SetToken 0x80000000) ≡ true)

@@ -2,6 +2,7 @@
 use Rattle.std.specs.Prelude.{◌≡◌, ℕ, true}
 use Rattle.gl_base.specs.declared.rect.Rect.{Rect}
 use Rattle.gl_plain.specs.subjects.Buffers.{BuffersAgree}
+use Rattle.gl_plain.specs.subjects.Programs.{ProgramsAgree}
 use Rattle.gl_plain.specs.subjects.Images.{ImagePlace, ScreenImage, Covers, Contents, Pixel, is_defined}
 use Rattle.gl_plain.specs.State.{EsState, WireState, DriverTables, DriverState}
 
@@ -14,6 +15,7 @@ pub record TablesAgree (s : EsState) (t : DriverTables) : Type 0 where
   pub surface : s.surface ≡ t.surface
   pub buffers : BuffersAgree s.buffers t.buffers t.given.buffers
   pub attribs : s.attribs ≡ t.attribs
+  pub programs : ProgramsAgree s.programs t.programs t.given.programs
 
 -- each written rectangle is that of the driver's image, and the default framebuffer is written
 pub record ImagesAgree (s : EsState) (f : Covers) (k : Contents) : Type 0 where

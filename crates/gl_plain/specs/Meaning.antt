@@ -7,7 +7,8 @@ use Rattle.gl_plain.specs.Oracle.{Oracle}
 use Rattle.gl_plain.specs.State.{WireState}
 use Rattle.gl_plain.specs.Outcome.{Outcome, leaves}
 use Rattle.gl_plain.specs.Commands.{command_of}
-use Rattle.gl_plain.specs.Wire.{is_bad, own_step, wire_step, own_calls, command_calls}
+use Rattle.gl_plain.specs.subjects.Buckets.{breaks_bucket_rule}
+use Rattle.gl_plain.specs.Wire.{is_bad, data_words, given_to, own_step, wire_step, own_calls, command_calls}
 
 -- whether a command's arguments are malformed, and, by the answers that it is given, what it leaves and which driver calls it makes
 pub record Meaning (S : Type 0) : Type 0 where
@@ -15,7 +16,7 @@ pub record Meaning (S : Type 0) : Type 0 where
   pub step : Oracle → Outcome S
   pub calls : Oracle → List DriverCall
 
--- a command, in a state of the service, with the bytes that come beside it
+-- a command, in a state of the service, with its data
 abbrev pub command_meaning : WireState → Command → List ℕ → Meaning WireState
 command_meaning w c payload = record { bad = is_bad w c; step = wire_step w c payload; calls = command_calls w c payload }
 
@@ -27,10 +28,15 @@ own_meaning w c payload = record { bad = false; step = own_step w c payload; cal
 abbrev pub no_meaning : WireState → Meaning WireState
 no_meaning w = record { bad = true; step = leaves w; calls = λ o. [] }
 
--- the command that is spelled, if one is
+-- a command whose data may lie in a bucket, where it breaks no rule of the bucket
+abbrev pub meaning_if : (broken : Bool) → WireState → Command → List ℕ → Meaning WireState
+meaning_if true w c payload = no_meaning w
+meaning_if false w c payload = command_meaning w c (given_to w c payload)
+
+-- the command that is spelled, if one is, with the bytes that come beside it
 abbrev pub meaning_by : WireState → Option Command → List ℕ → Meaning WireState
 meaning_by w None payload = no_meaning w
-meaning_by w (Some c) payload = command_meaning w c payload
+meaning_by w (Some c) payload = meaning_if (breaks_bucket_rule w.buckets (data_words c)) w c payload
 
 -- a fetched command
 abbrev pub meaning_of : WireState → Fetched → Meaning WireState

@@ -1,8 +1,13 @@
 -- The answers that a run is given: for each kind of question a list that goes on for ever, in the order in which the questions are asked.
-use Rattle.std.specs.Prelude.{ℕ, ◌+◌, ◌==◌, if◌then◌else◌, List, [], ◌∷◌, None}
+use Rattle.std.specs.Prelude.{ℕ, ◌+◌, ◌==◌, if◌then◌else◌, List, [], ◌∷◌, Option, None, Some, slice_get}
 use Rattle.std.specs.List.{list_any}
 use Prim.Native.Nat.{zero, suc}
+use Rattle.gl_plain.specs.declared.driver_calls.Answer.{Answer}
+use Rattle.gl_plain.specs.declared.driver_calls.Answer.TheVariants as answer
 use Rattle.gl_plain.specs.declared.driver_calls.Answers.{Answers}
+use Rattle.gl_plain.specs.declared.programs.LinkAnswer.{LinkAnswer}
+use Rattle.gl_plain.specs.declared.programs.Verdict.{Verdict}
+use Rattle.gl_plain.specs.subjects.Links.{default_verdict, default_link}
 use Rattle.gl_plain.specs.declared.driver_calls.Stored.{Stored}
 use Rattle.gl_plain.specs.declared.driver_calls.Stored.TheVariants as room
 
@@ -32,16 +37,59 @@ counted_from n k = n + k
 pub record Oracle : Type 0 where
   -- the numbers that new buffers get
   pub buffers : ℕ → ℕ
+  -- the numbers that new shaders and programs get
+  pub programs : ℕ → ℕ
+  -- what compilations, links and validations say
+  pub compile : ℕ → Verdict
+  pub link : ℕ → LinkAnswer
+  pub validate : ℕ → Verdict
   -- whether there is room for what is to be stored
   pub stored : ℕ → Stored
 
--- the answers where an input gives none: objects are numbered from 1, and there is room
+-- the answers where an input gives none: objects are numbered from 1, all goes well, nothing is said or active, and there is room
 abbrev pub default_answers : Oracle
-default_answers = record { buffers = counted_from 1; stored = λ k. room.Done }
+default_answers = record {
+  buffers = counted_from 1;
+  programs = counted_from 1;
+  compile = λ k. default_verdict;
+  link = λ k. default_link;
+  validate = λ k. default_verdict;
+  stored = λ k. room.Done;
+}
 
--- there is always room, and the driver is never lost
+-- all goes well, there is always room, and the driver is never lost
 abbrev pub no_answers : Answers
-no_answers = record { oom = []; lost = None }
+no_answers = record { compile = []; link = []; validate = []; oom = []; lost = None }
+
+-- what a compilation says by the answer that is given for it, if one of that kind is
+abbrev pub compile_in : Option Answer → Verdict
+compile_in (Some (answer.Compile ok log)) = record { ok = ok; log = log }
+compile_in (Some answer.Done) = default_verdict
+compile_in (Some (answer.Name n)) = default_verdict
+compile_in (Some answer.Oom) = default_verdict
+compile_in (Some (answer.Link a)) = default_verdict
+compile_in (Some (answer.Validate ok log)) = default_verdict
+compile_in None = default_verdict
+
+-- what a link says
+abbrev pub link_in : Option Answer → LinkAnswer
+link_in (Some (answer.Link a)) = a
+link_in (Some answer.Done) = default_link
+link_in (Some (answer.Name n)) = default_link
+link_in (Some answer.Oom) = default_link
+link_in (Some (answer.Compile ok log)) = default_link
+link_in (Some (answer.Validate ok log)) = default_link
+link_in None = default_link
+
+-- what a validation says
+abbrev pub validate_in : Option Answer → Verdict
+validate_in (Some (answer.Validate ok log)) = record { ok = ok; log = log }
+validate_in (Some answer.Done) = default_verdict
+validate_in (Some (answer.Name n)) = default_verdict
+validate_in (Some answer.Oom) = default_verdict
+validate_in (Some (answer.Compile ok log)) = default_verdict
+validate_in (Some (answer.Link a)) = default_verdict
+validate_in None = default_verdict
 
 -- whether there is room where this question is asked, by those that find none
 abbrev pub stored_at : List ℕ → ℕ → Stored
@@ -49,4 +97,11 @@ stored_at oom question = if list_any (λ n. n == question) oom then room.Oom els
 
 -- the answers that an input gives
 abbrev pub answers_of : Answers → Oracle
-answers_of given = record { buffers = counted_from 1; stored = stored_at given.oom }
+answers_of given = record {
+  buffers = counted_from 1;
+  programs = counted_from 1;
+  compile = λ k. compile_in (slice_get given.compile k);
+  link = λ k. link_in (slice_get given.link k);
+  validate = λ k. validate_in (slice_get given.validate k);
+  stored = stored_at given.oom;
+}

@@ -7,6 +7,8 @@ use Rattle.gl_plain.specs.declared.errors.Errors.{Errors}
 use Rattle.gl_plain.specs.Errors.{no_errors}
 use Rattle.gl_plain.specs.subjects.Buffers.{BufferTables, no_buffers}
 use Rattle.gl_plain.specs.subjects.Attributes.{no_arrays}
+use Rattle.gl_plain.specs.subjects.Programs.{ProgramTables, no_programs}
+use Rattle.gl_plain.specs.subjects.Buckets.{Buckets, empty_buckets}
 use Rattle.gl_plain.specs.subjects.Images.{Contents, Covers, no_covers, opening_contents}
 
 -- the width and the height of the default framebuffer
@@ -18,23 +20,27 @@ pub record EsState : Type 0 where
   pub surface : Surface
   pub buffers : BufferTables
   pub attribs : VertexAttributes
+  pub programs : ProgramTables
   pub errors : Errors
 
--- the state of the service: that of OpenGL ES, the written rectangles, and the last token
+-- the state of the service: that of OpenGL ES, the written rectangles, the buckets, and the last token
 pub record WireState : Type 0 where
   pub es : EsState
   pub covers : Covers
+  pub buckets : Buckets
   pub token : ℕ
 
 -- the names that a driver ever gave, in each name space
 pub record NamesGiven : Type 0 where
   pub buffers : set.FinSet nat_cmp
+  pub programs : set.FinSet nat_cmp
 
 -- the tables of a driver, which keeps no errors
 pub record DriverTables : Type 0 where
   pub surface : Surface
   pub buffers : BufferTables
   pub attribs : VertexAttributes
+  pub programs : ProgramTables
   pub given : NamesGiven
 
 -- the state of a driver: its tables, and the contents of all images
@@ -44,15 +50,21 @@ pub record DriverState : Type 0 where
 
 -- the opening state, for a default framebuffer of these sides (tables 6.2 to 6.19)
 abbrev pub opening : Surface → EsState
-opening surface = record { surface = surface; buffers = no_buffers; attribs = no_arrays; errors = no_errors }
+opening surface = record { surface = surface; buffers = no_buffers; attribs = no_arrays; programs = no_programs; errors = no_errors }
 
 -- the opening state of the service
 abbrev pub opening_wire : Surface → WireState
-opening_wire surface = record { es = opening surface; covers = no_covers; token = 0 }
+opening_wire surface = record { es = opening surface; covers = no_covers; buckets = empty_buckets; token = 0 }
 
 -- the opening tables of a driver
 abbrev pub opening_tables : Surface → DriverTables
-opening_tables surface = record { surface = surface; buffers = no_buffers; attribs = no_arrays; given = record { buffers = set.empty } }
+opening_tables surface = record {
+  surface = surface;
+  buffers = no_buffers;
+  attribs = no_arrays;
+  programs = no_programs;
+  given = record { buffers = set.empty; programs = set.empty };
+}
 
 -- the opening state of a driver
 abbrev pub opening_driver : Surface → DriverState

@@ -1,45 +1,65 @@
 -- One command on the wire: when it is malformed or refused, and what it leaves.
-use Rattle.std.specs.Prelude.{ℕ, ◌^◌, nat_le, Bool, false, List, [], ◌++◌, Option, None, Some}
+use Rattle.std.specs.Prelude.{ℕ, nat_lt, Bool, false, List, [], ◌++◌, Option, None, Some}
+use Rattle.gl_base.specs.declared.limits.TheConstants.{LAST_TOKEN}
 use Rattle.gl_plain.specs.declared.errors.GlError.{GlError}
 use Rattle.gl_plain.specs.declared.commands.Command.{Command}
-use Rattle.gl_plain.specs.declared.commands.Command.TheVariants.{Noop, SetToken, Object, Query}
+use Rattle.gl_plain.specs.declared.commands.Command.TheVariants.{Noop, SetToken, Bucket, Object, Query}
+use Rattle.gl_plain.specs.declared.commands.DataWords.{DataWords}
 use Rattle.gl_plain.specs.declared.driver_calls.DriverCall.{DriverCall}
 use Rattle.gl_plain.specs.subjects.Images.{ImagePlace}
+use Rattle.gl_plain.specs.subjects.Buckets.{bucket_command_is_bad, IsBucketData, buckets_after, bucket_reply, data_given}
 use Rattle.gl_plain.specs.Oracle.{Oracle}
 use Rattle.gl_plain.specs.State.{EsState, WireState}
 use Rattle.gl_plain.specs.Outcome.{Outcome, leaves, with_error}
 use Rattle.gl_plain.specs.Covers.{all_filled, zeroings}
+use Rattle.gl_plain.specs.object.Commands.{object_data_words}
 use Rattle.gl_plain.specs.object.Arguments.{object_is_bad, IsObjectData}
 use Rattle.gl_plain.specs.object.Refusal.{object_command_refusal}
 use Rattle.gl_plain.specs.object.Step.{object_step}
 use Rattle.gl_plain.specs.object.Calls.{own_object_calls}
 use Rattle.gl_plain.specs.query.Step.{query_step}
 
--- an argument rule of the command is broken; a token has 31 bits
+-- an argument rule of the command is broken, other than those on data in a bucket; a token has 31 bits
 abbrev pub is_bad : WireState → Command → Bool
 is_bad w Noop = false
-is_bad w (SetToken token) = nat_le (2 ^ 31) token
+is_bad w (SetToken token) = nat_lt LAST_TOKEN token
+is_bad w (Bucket c) = bucket_command_is_bad w.buckets c
 is_bad w (Object c) = object_is_bad w.es c
 is_bad w (Query c) = false
 
--- the bytes that come beside a command are those that its words name
+-- the words of a command's data, if it may have data in a bucket
+abbrev pub data_words : Command → Option DataWords
+data_words Noop = None
+data_words (SetToken token) = None
+data_words (Bucket c) = None
+data_words (Object c) = object_data_words c
+data_words (Query c) = None
+
+-- the data of a command: the bytes of its bucket, or those that come beside it
+abbrev pub given_to : WireState → Command → List ℕ → List ℕ
+given_to w c payload = data_given w.buckets (data_words c) payload
+
+-- the bytes that a command has as its data are those that its words name
 abbrev pub IsCommandData : Command → List ℕ → Type 0
 IsCommandData Noop payload = Unit {0}
 IsCommandData (SetToken token) payload = Unit {0}
+IsCommandData (Bucket c) payload = IsBucketData c payload
 IsCommandData (Object c) payload = IsObjectData c payload
 IsCommandData (Query c) payload = Unit {0}
 
--- the code that a command is refused with, if any
-abbrev pub command_refusal : EsState → Command → Option GlError
-command_refusal s Noop = None
-command_refusal s (SetToken token) = None
-command_refusal s (Object c) = object_command_refusal s c
-command_refusal s (Query c) = None
+-- the code that a command with its data is refused with, if any
+abbrev pub command_refusal : EsState → Command → List ℕ → Option GlError
+command_refusal s Noop payload = None
+command_refusal s (SetToken token) payload = None
+command_refusal s (Bucket c) payload = None
+command_refusal s (Object c) payload = object_command_refusal s c payload
+command_refusal s (Query c) payload = None
 
--- the images that a command needs written whole before its own driver call, in order; no command on objects needs one, and no query
+-- the images that a command needs written whole before its own driver call, in order; no command that is built so far needs one
 abbrev pub whole_first : WireState → Command → List ImagePlace
 whole_first w Noop = []
 whole_first w (SetToken token) = []
+whole_first w (Bucket c) = []
 whole_first w (Object c) = []
 whole_first w (Query c) = []
 
@@ -55,6 +75,7 @@ on_wire w out = record { state = record w { es = out.state }; oracle = out.oracl
 abbrev pub own_step : WireState → Command → List ℕ → Oracle → Outcome WireState
 own_step w Noop payload o = leaves w o
 own_step w (SetToken token) payload o = leaves (record w { token = token }) o
+own_step w (Bucket c) payload o = record { state = record w { buckets = buckets_after w.buckets c payload }; oracle = o; reply = bucket_reply w.buckets c }
 own_step w (Object c) payload o = on_wire w (object_step w.es c payload o)
 own_step w (Query c) payload o = on_wire w (query_step w.es c o)
 
@@ -63,14 +84,15 @@ abbrev pub step_by : Option GlError → WireState → Command → List ℕ → O
 step_by (Some e) w c payload o = leaves (record w { es = with_error w.es e }) o
 step_by None w c payload o = own_step (zeroed w c) c payload o
 
--- one command, with the bytes that come beside it
+-- one command, with its data
 abbrev pub wire_step : WireState → Command → List ℕ → Oracle → Outcome WireState
-wire_step w c payload o = step_by (command_refusal w.es c) w c payload o
+wire_step w c payload o = step_by (command_refusal w.es c payload) w c payload o
 
 -- the driver calls of a command's name, with driver names
 abbrev pub own_calls : WireState → Command → List ℕ → Oracle → List DriverCall
 own_calls w Noop payload o = []
 own_calls w (SetToken token) payload o = []
+own_calls w (Bucket c) payload o = []
 own_calls w (Object c) payload o = own_object_calls w.es c payload o
 own_calls w (Query c) payload o = []
 
@@ -81,4 +103,4 @@ calls_by None w c payload o = zeroings w.es w.covers (whole_first w c) ++ own_ca
 
 -- all driver calls of a command
 abbrev pub command_calls : WireState → Command → List ℕ → Oracle → List DriverCall
-command_calls w c payload o = calls_by (command_refusal w.es c) w c payload o
+command_calls w c payload o = calls_by (command_refusal w.es c payload) w c payload o

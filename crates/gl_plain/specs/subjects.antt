@@ -3,4 +3,8 @@ pub mod Names
 pub mod Data
 pub mod Buffers
 pub mod Attributes
+pub mod Links
+pub mod Programs
+pub mod Uniforms
+pub mod Buckets
 pub mod Images

@@ -68,6 +68,54 @@ pub enum ObjectCall {
     DisableVertexAttribArray {
         index: u32,
     },
+    CreateShader {
+        kind: GlEnum,
+    },
+    ShaderSource {
+        shader: u32,
+        source: Payload,
+    },
+    CompileShader {
+        shader: u32,
+    },
+    DeleteShader {
+        shader: u32,
+    },
+    CreateProgram,
+    AttachShader {
+        program: u32,
+        shader: u32,
+    },
+    DetachShader {
+        program: u32,
+        shader: u32,
+    },
+    BindAttribLocation {
+        program: u32,
+        index: u32,
+        name: Bytes,
+    },
+    LinkProgram {
+        program: u32,
+    },
+    ValidateProgram {
+        program: u32,
+    },
+    UseProgram {
+        program: u32,
+    },
+    DeleteProgram {
+        program: u32,
+    },
+    /// All calls of Uniform: `kind` is 1 to 4 for so many floats, 5 to 8 for 1 to 4 signed numbers, and 9 to 11 for square matrices of 2 to 4
+    /// columns.
+    Uniform {
+        location: i32,
+        kind: u32,
+        count: i32,
+        transpose: bool,
+        values: Payload,
+    },
 }
 
 /// A call that asks for state.
@@ -87,7 +135,9 @@ pub enum Call {
 #[derive(Debug, Drop)]
 pub enum Reply {
     None,
+    Word(u32),
     Names(Names),
+    Bytes(Bytes),
     /// An error code, or 0 for NO_ERROR.
     Error(u32),
 }

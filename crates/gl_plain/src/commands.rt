@@ -1,14 +1,16 @@
 //! Commands: as they are read from the ring, and as their words spell them.
 ghost use Rattle.std.specs.Prelude.{◌≡◌, ◌≤◌, slice_index};
-ghost use Rattle.gl_plain.specs.object.Commands.{object_command_in};
+ghost use Rattle.gl_plain.specs.object.Commands.{object_command_in, program_command_in};
 ghost use Rattle.gl_plain.specs.query.Commands.{query_command_in};
-ghost use Rattle.gl_plain.specs.Commands.{command_in};
+ghost use Rattle.gl_plain.specs.Commands.{bucket_command_in, command_in, is_known};
 
 use crate::Bytes;
 use crate::numbers::{
-    BIND_BUFFER, BUFFER_DATA, BUFFER_SUB_DATA, DELETE_BUFFERS, DISABLE_VERTEX_ATTRIB_ARRAY,
-    ENABLE_VERTEX_ATTRIB_ARRAY, GEN_BUFFERS, GET_ERROR, NOOP, SET_TOKEN, VERTEX_ATTRIB_4F,
-    VERTEX_ATTRIB_POINTER,
+    ATTACH_SHADER, BIND_ATTRIB_LOCATION, BIND_BUFFER, BUFFER_DATA, BUFFER_SUB_DATA, COMPILE_SHADER,
+    CREATE_PROGRAM, CREATE_SHADER, DELETE_BUFFERS, DELETE_PROGRAM, DELETE_SHADER, DETACH_SHADER,
+    DISABLE_VERTEX_ATTRIB_ARRAY, ENABLE_VERTEX_ATTRIB_ARRAY, GEN_BUFFERS, GET_BUCKET_DATA,
+    GET_BUCKET_START, GET_ERROR, LINK_PROGRAM, NOOP, SET_BUCKET_DATA, SET_BUCKET_SIZE, SET_TOKEN,
+    SHADER_SOURCE, UNIFORM, USE_PROGRAM, VALIDATE_PROGRAM, VERTEX_ATTRIB_4F, VERTEX_ATTRIB_POINTER,
 };
 use arrayvec::ArrayVec;
 use gl_base::{FloatBits, GlEnum};
@@ -105,6 +107,85 @@ pub enum ObjectCommand {
     DisableVertexAttribArray {
         index: u32,
     },
+    /// CreateShader, under the id that the client gives.
+    CreateShader {
+        id: u32,
+        kind: GlEnum,
+    },
+    ShaderSource {
+        shader: u32,
+        words: DataWords,
+    },
+    CompileShader {
+        shader: u32,
+    },
+    DeleteShader {
+        shader: u32,
+    },
+    /// CreateProgram, under the id that the client gives.
+    CreateProgram {
+        id: u32,
+    },
+    AttachShader {
+        program: u32,
+        shader: u32,
+    },
+    DetachShader {
+        program: u32,
+        shader: u32,
+    },
+    /// BindAttribLocation, for the name that is its data.
+    BindAttribLocation {
+        program: u32,
+        index: u32,
+        words: DataWords,
+    },
+    LinkProgram {
+        program: u32,
+    },
+    ValidateProgram {
+        program: u32,
+    },
+    UseProgram {
+        program: u32,
+    },
+    DeleteProgram {
+        program: u32,
+    },
+    /// All calls of Uniform, by the kind of what is given.
+    Uniform {
+        location: i32,
+        kind: u32,
+        count: i32,
+        transpose: bool,
+        words: DataWords,
+    },
+}
+
+/// A command on a bucket, where the service keeps data that is longer than a region.
+#[derive(Clone, Copy, Debug, PartialEq, Eq)]
+pub enum BucketCommand {
+    /// The bucket becomes so many zeros.
+    SetSize {
+        bucket: u32,
+        size: u32,
+    },
+    /// The data is written into the bucket, from an offset on.
+    SetData {
+        bucket: u32,
+        offset: u32,
+        words: DataWords,
+    },
+    /// The reply is the bucket's size.
+    GetStart {
+        bucket: u32,
+    },
+    /// The reply is so many of the bucket's bytes, from an offset on.
+    GetData {
+        bucket: u32,
+        offset: u32,
+        count: u32,
+    },
 }
 
 /// A command that asks for state.
@@ -119,6 +200,7 @@ pub enum Command {
     /// Nothing is done.
     Noop,
     SetToken { token: u32 },
+    Bucket(BucketCommand),
     Object(ObjectCommand),
     Query(QueryCommand),
 }
@@ -167,6 +249,88 @@ impl ArrayWords {
     }
 }
 
+/// The command on a bucket that a number and words spell, or none.
+fn bucket_command(number: u32, words: &[u32]) -> Option<BucketCommand>
+    ensures { result ≡ bucket_command_in number words.now }
+{
+    match number {
+        SET_BUCKET_SIZE => Some(BucketCommand::SetSize {
+            bucket: word(words, 0),
+            size: word(words, 1),
+        }),
+        SET_BUCKET_DATA => Some(BucketCommand::SetData {
+            bucket: word(words, 0),
+            offset: word(words, 1),
+            words: DataWords::read(words, 2),
+        }),
+        GET_BUCKET_START => Some(BucketCommand::GetStart {
+            bucket: word(words, 0),
+        }),
+        GET_BUCKET_DATA => Some(BucketCommand::GetData {
+            bucket: word(words, 0),
+            offset: word(words, 1),
+            count: word(words, 2),
+        }),
+        _ => None,
+    }
+}
+
+/// The command on shaders and programs that a number and words spell, or none.
+fn program_command(number: u32, words: &[u32]) -> Option<ObjectCommand>
+    ensures { result ≡ program_command_in number words.now }
+{
+    match number {
+        CREATE_SHADER => Some(ObjectCommand::CreateShader {
+            id: word(words, 0),
+            kind: GlEnum(word(words, 1)),
+        }),
+        SHADER_SOURCE => Some(ObjectCommand::ShaderSource {
+            shader: word(words, 0),
+            words: DataWords::read(words, 1),
+        }),
+        COMPILE_SHADER => Some(ObjectCommand::CompileShader {
+            shader: word(words, 0),
+        }),
+        DELETE_SHADER => Some(ObjectCommand::DeleteShader {
+            shader: word(words, 0),
+        }),
+        CREATE_PROGRAM => Some(ObjectCommand::CreateProgram { id: word(words, 0) }),
+        ATTACH_SHADER => Some(ObjectCommand::AttachShader {
+            program: word(words, 0),
+            shader: word(words, 1),
+        }),
+        DETACH_SHADER => Some(ObjectCommand::DetachShader {
+            program: word(words, 0),
+            shader: word(words, 1),
+        }),
+        BIND_ATTRIB_LOCATION => Some(ObjectCommand::BindAttribLocation {
+            program: word(words, 0),
+            index: word(words, 1),
+            words: DataWords::read(words, 2),
+        }),
+        LINK_PROGRAM => Some(ObjectCommand::LinkProgram {
+            program: word(words, 0),
+        }),
+        VALIDATE_PROGRAM => Some(ObjectCommand::ValidateProgram {
+            program: word(words, 0),
+        }),
+        USE_PROGRAM => Some(ObjectCommand::UseProgram {
+            program: word(words, 0),
+        }),
+        DELETE_PROGRAM => Some(ObjectCommand::DeleteProgram {
+            program: word(words, 0),
+        }),
+        UNIFORM => Some(ObjectCommand::Uniform {
+            location: word(words, 0).cast_signed(),
+            kind: word(words, 1),
+            count: word(words, 2).cast_signed(),
+            transpose: word(words, 3) != 0,
+            words: DataWords::read(words, 4),
+        }),
+        _ => None,
+    }
+}
+
 /// The command on objects that a number and words spell, or none.
 fn object_command(number: u32, words: &[u32]) -> Option<ObjectCommand>
     ensures { result ≡ object_command_in number words.now }
@@ -207,7 +371,7 @@ fn object_command(number: u32, words: &[u32]) -> Option<ObjectCommand>
         DISABLE_VERTEX_ATTRIB_ARRAY => Some(ObjectCommand::DisableVertexAttribArray {
             index: word(words, 0),
         }),
-        _ => None,
+        _ => program_command(number, words),
     }
 }
 
@@ -235,12 +399,56 @@ fn spelled(number: u32, words: &[u32]) -> Option<Command>
         }
         _ => {}
     }
+    if let Some(command) = bucket_command(number, words) {
+        return Some(Command::Bucket(command));
+    }
     if let Some(command) = object_command(number, words) {
         return Some(Command::Object(command));
     }
     match query_command(number) {
         Some(command) => Some(Command::Query(command)),
         None => None,
+    }
+}
+
+/// Whether the number is that of a command that is built so far.
+pub fn is_known(number: u32) -> bool
+    ensures { result ≡ is_known number }
+{
+    spelled(number, &[]).is_some()
+}
+
+impl ObjectCommand {
+    ghost use Rattle.gl_plain.specs.object.Commands.{object_data_words};
+
+    /// The words of its data, if it has any.
+    pub fn data_words(self) -> Option<DataWords>
+        ensures { result ≡ object_data_words self }
+    {
+        match self {
+            ObjectCommand::BufferData { words, .. }
+            | ObjectCommand::BufferSubData { words, .. }
+            | ObjectCommand::ShaderSource { words, .. }
+            | ObjectCommand::BindAttribLocation { words, .. }
+            | ObjectCommand::Uniform { words, .. } => Some(words),
+            ObjectCommand::GenBuffers { .. }
+            | ObjectCommand::BindBuffer { .. }
+            | ObjectCommand::DeleteBuffers { .. }
+            | ObjectCommand::VertexAttrib4f { .. }
+            | ObjectCommand::VertexAttribPointer { .. }
+            | ObjectCommand::EnableVertexAttribArray { .. }
+            | ObjectCommand::DisableVertexAttribArray { .. }
+            | ObjectCommand::CreateShader { .. }
+            | ObjectCommand::CompileShader { .. }
+            | ObjectCommand::DeleteShader { .. }
+            | ObjectCommand::CreateProgram { .. }
+            | ObjectCommand::AttachShader { .. }
+            | ObjectCommand::DetachShader { .. }
+            | ObjectCommand::LinkProgram { .. }
+            | ObjectCommand::ValidateProgram { .. }
+            | ObjectCommand::UseProgram { .. }
+            | ObjectCommand::DeleteProgram { .. } => None,
+        }
     }
 }
 

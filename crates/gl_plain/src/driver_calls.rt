@@ -2,7 +2,7 @@
 ghost use Rattle.std.specs.Prelude.{◌≡◌};
 ghost use Rattle.gl_plain.specs.Oracle.{no_answers};
 
-use crate::{Bytes, Seq, Words};
+use crate::{Bytes, LinkAnswer, Seq, Words};
 use gl_base::GlEnum;
 use std::alloc::Global;
 
@@ -47,10 +47,62 @@ pub enum ObjectDriver {
     },
 }
 
+/// A driver call on a shader or a program. Names are the driver's own.
+#[derive(Debug, Drop)]
+pub enum ProgramDriver {
+    CreateShader {
+        kind: GlEnum,
+    },
+    CreateProgram,
+    DeleteShader {
+        name: u64,
+    },
+    DeleteProgram {
+        name: u64,
+    },
+    ShaderSource {
+        name: u64,
+        bytes: Bytes,
+    },
+    CompileShader {
+        name: u64,
+    },
+    AttachShader {
+        program: u64,
+        shader: u64,
+    },
+    DetachShader {
+        program: u64,
+        shader: u64,
+    },
+    BindAttribLocation {
+        program: u64,
+        index: u32,
+        name: Bytes,
+    },
+    LinkProgram {
+        name: u64,
+    },
+    ValidateProgram {
+        name: u64,
+    },
+    UseProgram {
+        name: u64,
+    },
+    /// The elements of a uniform from this location on, in the executable that is in use.
+    Uniform {
+        location: i32,
+        kind: u32,
+        count: i32,
+        bytes: Bytes,
+    },
+}
+
 /// A driver call.
 #[derive(Debug, Drop)]
 pub enum DriverCall {
     Object(ObjectDriver),
+    Program(ProgramDriver),
 }
 
 /// A driver's answer to a call.
@@ -61,7 +113,16 @@ pub enum Answer {
     Name(u64),
     /// There was no room for what was to be stored, and nothing was changed.
     Oom,
+    /// What a compilation said.
+    Compile { ok: bool, log: Bytes },
+    /// What a link said.
+    Link(LinkAnswer),
+    /// What a validation said.
+    Validate { ok: bool, log: Bytes },
 }
+
+/// Answers of one kind, in the order in which they are given.
+pub type AnswerList = Seq<Answer>;
 
 /// Whether there was room for what was to be stored.
 #[derive(Clone, Copy, Debug, PartialEq, Eq)]
@@ -80,9 +141,16 @@ pub struct DriverEntry {
 /// A journal: the entries in the order of the calls.
 pub type EntryList = Seq<DriverEntry>;
 
-/// The answers that a driver is given before it is called, and the call at which it is lost.
+/// The answers that a driver is given before it is called, and the call at which it is lost. Where the answers of a kind run out, it went
+/// well, the log is empty, and there are no attributes and no uniforms. So it is in place of an answer of another kind.
 #[derive(Debug, Drop)]
 pub struct Answers {
+    /// What compilations say.
+    pub compile: AnswerList,
+    /// What links say.
+    pub link: AnswerList,
+    /// What validations say.
+    pub validate: AnswerList,
     /// Which of the calls that ask for room, counted from 0, find none.
     pub oom: Words,
     /// How many calls are answered before the driver is lost, if it ever is.
@@ -90,11 +158,14 @@ pub struct Answers {
 }
 
 impl Answers {
-    /// There is always room, and the driver is never lost. It takes no memory.
+    /// All goes well, there is always room, and the driver is never lost. It takes no memory.
     pub fn new(alloc: Global) -> Answers
         ensures { result ≡ no_answers }
     {
         Answers {
+            compile: AnswerList::new(alloc),
+            link: AnswerList::new(alloc),
+            validate: AnswerList::new(alloc),
             oom: Words::new(alloc),
             lost: None,
         }

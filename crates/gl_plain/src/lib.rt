@@ -9,22 +9,32 @@ mod distinct;
 mod driver_calls;
 mod errors;
 pub mod fields;
+pub mod links;
 mod memory;
 pub mod numbers;
 mod objects;
+mod programs;
 mod seq;
 mod stop;
 
 pub use attributes::{ArraySpec, VertexAttribute, VertexAttributes};
 pub use calls::{Call, Names, ObjectCall, Payload, Pointer, QueryCall, Reply, ReplyList};
 pub use commands::{
-    ArrayWords, Command, DataWords, Fetched, Malformed, ObjectCommand, QueryCommand, Stop,
+    ArrayWords, BucketCommand, Command, DataWords, Fetched, Malformed, ObjectCommand, QueryCommand,
+    Stop, is_known,
 };
 pub use common_lines::{AnswersDraft, CommonLine, common_line};
-pub use driver_calls::{Answer, Answers, DriverCall, DriverEntry, EntryList, ObjectDriver, Stored};
+pub use driver_calls::{
+    Answer, AnswerList, Answers, DriverCall, DriverEntry, EntryList, ObjectDriver, ProgramDriver,
+    Stored,
+};
 pub use errors::{Errors, GlError};
 pub use memory::{Patch, PatchList, Region, RegionList, Timed, TimedList};
 pub use objects::{Buffer, Name};
+pub use programs::{
+    Attribute, AttributeList, BoundLocation, BoundLocationList, Executable, LinkAnswer, Numbers,
+    Program, Shader, Uniform, UniformList, Verdict,
+};
 pub use seq::{Bytes, Seq, Words};
 pub use stop::ExecStop;
 

@@ -63,6 +63,9 @@ fn an_attribute_is_changed_alone(rt: HostRuntime) {
 #[test]
 fn no_answers_are_given_at_first(rt: HostRuntime) {
     let answers = Answers::new(rt.alloc());
+    assert!(rt;
+        answers.compile.is_empty() && answers.link.is_empty() && answers.validate.is_empty()
+    );
     assert!(rt; answers.oom.is_empty());
     assert_eq!(rt; answers.lost, None);
 }

@@ -1,6 +1,7 @@
 //! From the words and the input to an end.
 ghost use Rattle.std.specs.Prelude.{◌≡◌, ◌⊎◌, ◌↔◌, ◌<◌, ◌≤◌, ◌^◌, map, length, IsTrue, OnOk, None, Some, IsErrOf, string_bytes, false, true};
 ghost use Rattle.gl_plain.specs.declared.commands.Stop.{Stop};
+ghost use Rattle.gl_plain.specs.CommonLines.{are_sound_answers};
 ghost use Rattle.gl_driver.specs.declared.stop.DriverStop.TheVariants as driver;
 ghost use Rattle.cb_shm.specs.Whole.{IsWholeScript};
 ghost use Rattle.gles2_run.specs.Desks.{new_desk};
@@ -28,6 +29,7 @@ fn is_ring(words: &[String]) -> bool
 /// first, and what is written there later, is kept by the memory alone.
 fn execute(alloc: Global, script: Script, desk: &mut Desk) -> Result<(), ServiceStop>
     requires whole { IsWholeScript script }
+    requires sound { IsTrue (are_sound_answers script.answers) }
     requires fresh { desk.old ≡ new_desk }
     ensures done { OnOk result (((ring_run script).stop ≡ None) × HoldsRun script desk.new) }
     ensures bad { (stop : Stop) → IsErrOf result (ServiceStop.Bad stop) → ((ring_run script).stop ≡ Some stop) × HoldsRun script desk.new }

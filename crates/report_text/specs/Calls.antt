@@ -1,12 +1,14 @@
 -- A driver call and its answer as they are printed.
-use Rattle.std.specs.Prelude.{ℕ, List, [], ◌∷◌, ◌++◌, map, codes}
+use Rattle.std.specs.Prelude.{ℕ, Bool, if◌then◌else◌, List, [], ◌∷◌, ◌++◌, map, codes}
 use Rattle.std.specs.Fmt.{decimal, signed_decimal}
 use Rattle.gl_plain.specs.declared.driver_calls.ObjectDriver.{ObjectDriver}
 use Rattle.gl_plain.specs.declared.driver_calls.ObjectDriver.TheVariants.{GenBuffer, BindBuffer, BufferData, BufferSubData, DeleteBuffer, VertexAttrib4, VertexAttribPointer, SetArray}
 use Rattle.gl_plain.specs.declared.driver_calls.DriverCall.{DriverCall}
-use Rattle.gl_plain.specs.declared.driver_calls.DriverCall.TheVariants.{Object}
+use Rattle.gl_plain.specs.declared.driver_calls.DriverCall.TheVariants.{Object, Program}
+use Rattle.gl_plain.specs.declared.driver_calls.ProgramDriver.{ProgramDriver}
+use Rattle.gl_plain.specs.declared.driver_calls.ProgramDriver.TheVariants.{CreateShader, CreateProgram, DeleteShader, DeleteProgram, ShaderSource, CompileShader, AttachShader, DetachShader, BindAttribLocation, LinkProgram, ValidateProgram, UseProgram, Uniform}
 use Rattle.gl_plain.specs.declared.driver_calls.Answer.{Answer}
-use Rattle.gl_plain.specs.declared.driver_calls.Answer.TheVariants.{Done, Name, Oom}
+use Rattle.gl_plain.specs.declared.driver_calls.Answer.TheVariants.{Done, Name, Oom, Compile, Link, Validate}
 use Rattle.report_text.specs.Lines.{spaced}
 use Rattle.report_text.specs.Values.{enum_text, pattern_text, flag_text, bytes_text}
 
@@ -23,12 +25,37 @@ object_text (VertexAttribPointer index size kind normalized stride offset) =
     codes "vertex_attrib_pointer" ++ spaced (decimal index ∷ signed_decimal size ∷ enum_text kind.0 ∷ flag_text normalized ∷ signed_decimal stride ∷ decimal offset ∷ [])
 object_text (SetArray index on) = codes "set_array" ++ spaced (decimal index ∷ flag_text on ∷ [])
 
+-- a call on a shader or a program is its name and its arguments
+unfoldable pub program_text : ProgramDriver → List ℕ
+program_text (CreateShader kind) = codes "create_shader" ++ spaced (enum_text kind.0 ∷ [])
+program_text CreateProgram = codes "create_program"
+program_text (DeleteShader name) = codes "delete_shader" ++ spaced (decimal name ∷ [])
+program_text (DeleteProgram name) = codes "delete_program" ++ spaced (decimal name ∷ [])
+program_text (ShaderSource name bytes) = codes "shader_source" ++ spaced (decimal name ∷ bytes_text bytes ∷ [])
+program_text (CompileShader name) = codes "compile_shader" ++ spaced (decimal name ∷ [])
+program_text (AttachShader program shader) = codes "attach_shader" ++ spaced (decimal program ∷ decimal shader ∷ [])
+program_text (DetachShader program shader) = codes "detach_shader" ++ spaced (decimal program ∷ decimal shader ∷ [])
+program_text (BindAttribLocation program index name) = codes "bind_attrib_location" ++ spaced (decimal program ∷ decimal index ∷ bytes_text name ∷ [])
+program_text (LinkProgram name) = codes "link_program" ++ spaced (decimal name ∷ [])
+program_text (ValidateProgram name) = codes "validate_program" ++ spaced (decimal name ∷ [])
+program_text (UseProgram name) = codes "use_program" ++ spaced (decimal name ∷ [])
+program_text (Uniform location kind count bytes) = codes "uniform" ++ spaced (signed_decimal location ∷ decimal kind ∷ signed_decimal count ∷ bytes_text bytes ∷ [])
+
 -- a call is printed as those of its kind are
 unfoldable pub call_text : DriverCall → List ℕ
 call_text (Object call) = object_text call
+call_text (Program call) = program_text call
 
--- an answer adds the name that it gives or the word `oom`, and else nothing
+-- whether it went well
+abbrev pub outcome_text : Bool → List ℕ
+outcome_text ok = if ok then codes " -> ok" else codes " -> fail"
+
+-- an answer adds the name that it gives, the word `oom`, or whether a compilation, a link or a validation went well, and else nothing; logs and
+-- lists are not printed
 unfoldable pub answer_text : Answer → List ℕ
 answer_text Done = []
 answer_text (Name name) = codes " -> " ++ decimal name
 answer_text Oom = codes " -> oom"
+answer_text (Compile ok log) = outcome_text ok
+answer_text (Link a) = outcome_text a.ok
+answer_text (Validate ok log) = outcome_text ok

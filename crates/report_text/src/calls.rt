@@ -1,6 +1,6 @@
 //! A driver call and its answer as they are printed.
 ghost use Rattle.std.specs.Prelude.{◌≡◌, ◌++◌, OnOk};
-ghost use Rattle.report_text.specs.Calls.{object_text, call_text, answer_text};
+ghost use Rattle.report_text.specs.Calls.{answer_text, call_text, object_text, outcome_text, program_text};
 ghost use Rattle.report_text.specs.Lines.{spaced};
 ghost use Rattle.report_text.specs.Values.{words};
 
@@ -8,7 +8,7 @@ use crate::arguments::Argument;
 use crate::values::write_number;
 use crate::words::write_words;
 use Argument::{Data, Enum, Flag, Number, Patterns, Signed};
-use gl_plain::{Answer, DriverCall, ObjectDriver};
+use gl_plain::{Answer, DriverCall, ObjectDriver, ProgramDriver};
 use std::alloc::AllocError;
 
 /// Writes the name of a call and its arguments.
@@ -81,6 +81,73 @@ fn write_object(line: &mut Vec<u8>, call: &ObjectDriver) -> Result<(), AllocErro
     }
 }
 
+#[tactic(auto, unfolding(crate::specs::Calls::program_text))]
+fn write_program(line: &mut Vec<u8>, call: &ProgramDriver) -> Result<(), AllocError>
+    ensures { OnOk result (line.new.items ≡ line.old.items ++ program_text call.now) }
+{
+    match call {
+        ProgramDriver::CreateShader { kind } => {
+            write_named(line, "create_shader", &[Enum(*kind)])
+        }
+        ProgramDriver::CreateProgram => write_named(line, "create_program", &[]),
+        ProgramDriver::DeleteShader { name } => {
+            write_named(line, "delete_shader", &[Number(*name)])
+        }
+        ProgramDriver::DeleteProgram { name } => {
+            write_named(line, "delete_program", &[Number(*name)])
+        }
+        ProgramDriver::ShaderSource { name, bytes } => write_named(
+            line,
+            "shader_source",
+            &[Number(*name), Data(bytes.as_slice())],
+        ),
+        ProgramDriver::CompileShader { name } => {
+            write_named(line, "compile_shader", &[Number(*name)])
+        }
+        ProgramDriver::AttachShader { program, shader } => {
+            write_named(line, "attach_shader", &[Number(*program), Number(*shader)])
+        }
+        ProgramDriver::DetachShader { program, shader } => {
+            write_named(line, "detach_shader", &[Number(*program), Number(*shader)])
+        }
+        ProgramDriver::BindAttribLocation {
+            program,
+            index,
+            name,
+        } => write_named(
+            line,
+            "bind_attrib_location",
+            &[
+                Number(*program),
+                Number(u64::from(*index)),
+                Data(name.as_slice()),
+            ],
+        ),
+        ProgramDriver::LinkProgram { name } => {
+            write_named(line, "link_program", &[Number(*name)])
+        }
+        ProgramDriver::ValidateProgram { name } => {
+            write_named(line, "validate_program", &[Number(*name)])
+        }
+        ProgramDriver::UseProgram { name } => write_named(line, "use_program", &[Number(*name)]),
+        ProgramDriver::Uniform {
+            location,
+            kind,
+            count,
+            bytes,
+        } => write_named(
+            line,
+            "uniform",
+            &[
+                Signed(*location),
+                Number(u64::from(*kind)),
+                Signed(*count),
+                Data(bytes.as_slice()),
+            ],
+        ),
+    }
+}
+
 /// Writes the name of a call and its arguments.
 #[tactic(auto, unfolding(crate::specs::Calls::call_text))]
 pub fn write_call(line: &mut Vec<u8>, call: &DriverCall) -> Result<(), AllocError>
@@ -88,6 +155,18 @@ pub fn write_call(line: &mut Vec<u8>, call: &DriverCall) -> Result<(), AllocErro
 {
     match call {
         DriverCall::Object(call) => write_object(line, call),
+        DriverCall::Program(call) => write_program(line, call),
+    }
+}
+
+/// Writes whether it went well.
+fn write_outcome(line: &mut Vec<u8>, ok: bool) -> Result<(), AllocError>
+    ensures { OnOk result (line.new.items ≡ line.old.items ++ outcome_text ok) }
+{
+    if ok {
+        line.extend_from_slice(b" -> ok")
+    } else {
+        line.extend_from_slice(b" -> fail")
     }
 }
 
@@ -103,5 +182,8 @@ pub fn write_answer(line: &mut Vec<u8>, answer: &Answer) -> Result<(), AllocErro
             write_number(line, *name)
         }
         Answer::Oom => line.extend_from_slice(b" -> oom"),
+        Answer::Compile { ok, log: _ } => write_outcome(line, *ok),
+        Answer::Link(answer) => write_outcome(line, answer.ok),
+        Answer::Validate { ok, log: _ } => write_outcome(line, *ok),
     }
 }

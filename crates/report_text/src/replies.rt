@@ -5,7 +5,7 @@ ghost use Rattle.report_text.specs.Lines.{spaced};
 ghost use Rattle.report_text.specs.Replies.{code_text, reply_line};
 
 use crate::text::{Line, Text};
-use crate::values::write_number;
+use crate::values::{write_bytes, write_number};
 use gl_base::error_name;
 use gl_plain::{Bytes, Reply};
 use std::alloc::{AllocError, Global};
@@ -48,10 +48,22 @@ impl Line for Reply {
     fn write_line(&self, number: u64, line: &mut Vec<u8>) -> Result<(), AllocError> {
         match self {
             Reply::None => Ok(()),
+            Reply::Word(word) => {
+                write_front(line, number)?;
+                line.extend_from_slice(b" word ")?;
+                write_number(line, u64::from(*word))?;
+                line.extend_from_slice(b"\n")
+            }
             Reply::Names(names) => {
                 write_front(line, number)?;
                 line.extend_from_slice(b" names")?;
                 write_names(line, names.as_slice())?;
+                line.extend_from_slice(b"\n")
+            }
+            Reply::Bytes(bytes) => {
+                write_front(line, number)?;
+                line.extend_from_slice(b" bytes ")?;
+                write_bytes(line, bytes.as_slice())?;
                 line.extend_from_slice(b"\n")
             }
             Reply::Error(code) => {

@@ -2,7 +2,10 @@
 use super::*;
 use gl_base::GlEnum;
 use gl_base::enums::{ARRAY_BUFFER, INVALID_VALUE, STATIC_DRAW};
-use gl_plain::{Answer, Bytes, DriverCall, DriverEntry, Names, ObjectDriver, Reply};
+use gl_plain::{
+    Answer, AttributeList, Bytes, DriverCall, DriverEntry, LinkAnswer, Names, ObjectDriver,
+    ProgramDriver, Reply, UniformList,
+};
 use std::alloc::{AllocError, Global};
 use std::process::Abort;
 use std::test::Fail;
@@ -65,10 +68,45 @@ fn calls_have_lines(rt: HostRuntime) -> Result<(), Fail> {
 }
 
 #[test]
+fn calls_on_programs_have_lines(rt: HostRuntime) -> Result<(), Fail> {
+    let alloc = rt.alloc();
+    let set = DriverEntry {
+        call: DriverCall::Program(ProgramDriver::Uniform {
+            location: -2,
+            kind: 11,
+            count: -1,
+            bytes: Bytes::from_slice(alloc, &[0, 0xAB])?,
+        }),
+        answer: Answer::Done,
+    };
+    let line = journal_line(alloc, 3, &set)?;
+    check_line(&rt, line, "driver 3 uniform -2 11 -1 2:00ab\n");
+    let linked = DriverEntry {
+        call: DriverCall::Program(ProgramDriver::LinkProgram { name: 7 }),
+        answer: Answer::Link(LinkAnswer {
+            ok: false,
+            log: Bytes::zeros(alloc, 2)?,
+            attributes: AttributeList::new(alloc),
+            uniforms: UniformList::new(alloc),
+        }),
+    };
+    let line = journal_line(alloc, 4, &linked)?;
+    check_line(&rt, line, "driver 4 link_program 7 -> fail\n");
+    Ok(())
+}
+
+#[test]
 fn replies_and_ends_have_lines(rt: HostRuntime) -> Result<(), Fail> {
     let alloc = rt.alloc();
     let names = Reply::Names(Names::from_slice(alloc, &[7, 0])?);
     check_line(&rt, reply_line(alloc, 3, &names)?, "reply 3 names 7 0\n");
+    check_line(
+        &rt,
+        reply_line(alloc, 6, &Reply::Word(u32::MAX))?,
+        "reply 6 word 4294967295\n",
+    );
+    let bytes = Reply::Bytes(Bytes::new(alloc));
+    check_line(&rt, reply_line(alloc, 7, &bytes)?, "reply 7 bytes 0:-\n");
     let error = Reply::Error(INVALID_VALUE);
     check_line(
         &rt,

@@ -13,21 +13,17 @@ use Rattle.cb_shm.specs.Hostile.{listed_size, script_sizes}
 use Rattle.cb_shm.specs.Whole.{AreDistinct, HasNumber, IsPatchInside, IsTimedInside}
 use Rattle.gl_plain.specs.declared.common_lines.AnswersDraft.{AnswersDraft}
 use Rattle.gl_plain.specs.declared.common_lines.CommonLine.{CommonLine}
-use Rattle.gl_plain.specs.declared.common_lines.CommonLine.TheVariants.{Ring, Oom, Lost}
-use Rattle.gl_plain.specs.CommonLines.{with_oom, with_lost}
+use Rattle.gl_plain.specs.declared.common_lines.CommonLine.TheVariants.{Ring, Oom, Lost, Compile, Link, OfAttribute, OfUniform, Validate}
+use Rattle.gl_plain.specs.CommonLines.{closed, with_attribute, with_compile, with_link, with_lost, with_oom, with_uniform, with_validate, IsSoundDraft}
+use Rattle.gl_plain.proofs.SoundAnswers.{let_through, sound_attribute, sound_closed, sound_compile, sound_link, sound_lost, sound_no_draft, sound_oom, sound_uniform, sound_validate}
 use Rattle.ring_script.specs.Limits.{listed_bytes, total_bytes, IsSmall}
-use Rattle.ring_script.specs.Rules.{draft_after, empty_draft, is_first, script_of, with_answers, with_common, with_opening, with_put, with_region, with_ring, with_timed, IsSound}
+use Rattle.ring_script.specs.Rules.{before_line, draft_after, empty_draft, ends_list, is_first, script_of, with_answers, with_common, with_line, with_opening, with_put, with_region, with_ring, with_timed, IsSound}
 use Rattle.ring_script.specs.Script.{draft_with}
 use Rattle.ring_script.specs.Lines.{line_in}
 use Rattle.ring_script.specs.declared.draft.Draft.{Draft}
 use Rattle.ring_script.specs.declared.line.Line.{Line}
 use Rattle.ring_script.specs.declared.line.Line.TheVariants.{PassedOver, Region as OfRegion, Opening, At, Put, Common}
 use Rattle.gl_plain.specs.Fields.{◌>>=◌}
-
--- what a test lets through
-let_through : {A : Type 0} (b : Bool) (x y : A) → (if b then Some x else None) ≡ Some y → (b ≡ true) × (x ≡ y)
-let_through true x y e = (refl, cc)
-let_through false x y e = absurd (cc)
 
 -- what holds of each, and of one more
 all_push : {X : Type 0} (P : X → Type 0) (xs : List X) (x : X) → AllByRecursion P xs → P x → AllByRecursion P (xs ++ x ∷ [])
@@ -94,6 +90,7 @@ pub sound_empty : IsSound empty_draft
 sound_empty = record {
   whole = record { some_entries = omega arith; few_entries = omega arith; numbers = tt; distinct = tt; opening = tt; timed = tt };
   limits = record { each = tt; total = omega arith };
+  answers = sound_no_draft;
 }
 
 -- no regions have no bytes
@@ -123,6 +120,7 @@ sound_ring draft next n sound e =
         timed = all_of_none (IsTimedInside sizes) draft.timed tests.2;
       };
       limits = record { each = sound.limits.each; total = omega (arith, no_bytes draft.regions tests.0, tests.4) };
+      answers = sound.answers;
     })
 
 -- what the test of a `region` line says
@@ -151,6 +149,7 @@ sound_region draft next r sound e =
         timed = all_weaker (IsTimedInside old) (IsTimedInside sizes) draft.timed (λ t. inside_more (script_of draft) r t.region t.offset (length t.bytes)) sound.whole.timed;
       };
       limits = record { each = all_push IsSmall draft.regions r sound.limits.each tests.2; total = omega (arith, sum_by_push (λ (x : Region). x.size) draft.regions r, tests.3) };
+      answers = sound.answers;
     })
 
 -- a `bytes` line that may stand
@@ -170,6 +169,7 @@ sound_opening draft next p sound e =
         timed = sound.whole.timed;
       };
       limits = record { each = sound.limits.each; total = sound.limits.total };
+      answers = sound.answers;
     })
 
 -- an `at` line that may stand
@@ -189,11 +189,12 @@ sound_timed draft next t sound e =
         timed = all_push (IsTimedInside sizes) draft.timed t sound.whole.timed inside;
       };
       limits = record { each = sound.limits.each; total = sound.limits.total };
+      answers = sound.answers;
     })
 
 -- a line that says nothing of the memory
-sound_beside : (draft : Draft) (puts : List ℕ) (answers : AnswersDraft) → IsSound draft → IsSound (record draft { puts = puts; answers = answers })
-sound_beside draft puts answers sound = record {
+sound_beside : (draft : Draft) (puts : List ℕ) (answers : AnswersDraft) → IsSound draft → IsSoundDraft answers → IsSound (record draft { puts = puts; answers = answers })
+sound_beside draft puts answers sound said = record {
   whole = record {
     some_entries = sound.whole.some_entries;
     few_entries = sound.whole.few_entries;
@@ -203,36 +204,55 @@ sound_beside draft puts answers sound = record {
     timed = sound.whole.timed;
   };
   limits = record { each = sound.limits.each; total = sound.limits.total };
+  answers = said;
 }
 
 -- a `put` line
 sound_put : (draft next : Draft) (put : ℕ) → IsSound draft → Some (with_put draft put) ≡ Some next → IsSound next
 sound_put draft next put sound e =
     let same : with_put draft put ≡ next = cc in
-    subst IsSound same (sound_beside draft (draft.puts ++ put ∷ []) draft.answers sound)
+    subst IsSound same (sound_beside draft (draft.puts ++ put ∷ []) draft.answers sound sound.answers)
 
 -- a line that traces have as well, by the answers that it gives
-sound_answers : (draft next : Draft) (answers : Option AnswersDraft) → IsSound draft → with_answers draft answers ≡ Some next → IsSound next
-sound_answers draft next None sound e = absurd (cc)
-sound_answers draft next (Some answers) sound e =
+sound_answers : (draft next : Draft) (answers : Option AnswersDraft) → IsSound draft → ((a : AnswersDraft) → answers ≡ Some a → IsSoundDraft a) → with_answers draft answers ≡ Some next → IsSound next
+sound_answers draft next None sound said e = absurd (cc)
+sound_answers draft next (Some answers) sound said e =
     let same : record draft { answers = answers } ≡ next = cc in
-    subst IsSound same (sound_beside draft draft.puts answers sound)
+    subst IsSound same (sound_beside draft draft.puts answers sound (said answers refl))
 
 sound_common : (draft next : Draft) (line : CommonLine) → IsSound draft → with_common draft line ≡ Some next → IsSound next
 unfolding with_common
 sound_common draft next (Ring n) sound e = sound_ring draft next n sound e
-sound_common draft next (Oom question) sound e = sound_answers draft next (with_oom draft.answers question) sound e
-sound_common draft next (Lost call) sound e = sound_answers draft next (with_lost draft.answers call) sound e
+sound_common draft next (Oom question) sound e = sound_answers draft next (with_oom draft.answers question) sound (λ a. sound_oom draft.answers a question sound.answers) e
+sound_common draft next (Lost call) sound e = sound_answers draft next (with_lost draft.answers call) sound (λ a. sound_lost draft.answers a call sound.answers) e
+sound_common draft next (Compile v) sound e = sound_answers draft next (with_compile draft.answers v) sound (λ a. sound_compile draft.answers a v sound.answers) e
+sound_common draft next (Link v) sound e = sound_answers draft next (with_link draft.answers v) sound (λ a. sound_link draft.answers a v sound.answers) e
+sound_common draft next (OfAttribute x) sound e = sound_answers draft next (with_attribute draft.answers x) sound (λ a. sound_attribute draft.answers a x sound.answers) e
+sound_common draft next (OfUniform u) sound e = sound_answers draft next (with_uniform draft.answers u) sound (λ a. sound_uniform draft.answers a u sound.answers) e
+sound_common draft next (Validate v) sound e = sound_answers draft next (with_validate draft.answers v) sound (λ a. sound_validate draft.answers a v sound.answers) e
 
 -- any line that may stand
+sound_line : (draft next : Draft) (line : Line) → IsSound draft → with_line draft line ≡ Some next → IsSound next
+unfolding with_line
+sound_line draft next PassedOver sound e = let same : draft ≡ next = cc in subst IsSound same sound
+sound_line draft next (OfRegion r) sound e = sound_region draft next r sound e
+sound_line draft next (Opening p) sound e = sound_opening draft next p sound e
+sound_line draft next (At t) sound e = sound_timed draft next t sound e
+sound_line draft next (Put put) sound e = sound_put draft next put sound e
+sound_line draft next (Common line) sound e = sound_common draft next line sound e
+
+-- the list of the last link ends, or not
+pub sound_before : (draft : Draft) (line : Line) → IsSound draft → IsSound (before_line draft line)
+sound_before draft line sound = go (ends_list line)
+  where
+    go : (b : Bool) → IsSound (if b then record draft { answers = closed draft.answers } else draft)
+    go true = sound_beside draft draft.puts (closed draft.answers) sound (sound_closed draft.answers sound.answers)
+    go false = sound
+
+-- any line that may stand after those before
 sound_after : (draft next : Draft) (line : Line) → IsSound draft → draft_after draft line ≡ Some next → IsSound next
 unfolding draft_after
-sound_after draft next PassedOver sound e = let same : draft ≡ next = cc in subst IsSound same sound
-sound_after draft next (OfRegion r) sound e = sound_region draft next r sound e
-sound_after draft next (Opening p) sound e = sound_opening draft next p sound e
-sound_after draft next (At t) sound e = sound_timed draft next t sound e
-sound_after draft next (Put put) sound e = sound_put draft next put sound e
-sound_after draft next (Common line) sound e = sound_common draft next line sound e
+sound_after draft next line sound e = sound_line (before_line draft line) next line (sound_before draft line sound) e
 
 -- any text of a line that may stand
 pub sound_with : (text : List ℕ) (draft next : Draft) → IsSound draft → draft_with text draft ≡ Some next → IsSound next

@@ -1,5 +1,5 @@
 -- Where each kind of line may stand, and what the lines so far say.
-use Rattle.std.specs.Prelude.{ℕ, Bool, ◌+◌, [], ◌∷◌, ◌++◌, length, ◌==◌, ◌&&◌, nat_le, if◌then◌else◌, Option, Some, None, is_none, unwrap_or}
+use Rattle.std.specs.Prelude.{ℕ, Bool, true, false, ◌+◌, [], ◌∷◌, ◌++◌, length, ◌==◌, ◌&&◌, nat_le, if◌then◌else◌, Option, Some, None, is_none, unwrap_or}
 use Rattle.gl_plain.specs.Regions.{is_inside}
 use Rattle.gl_plain.specs.declared.memory.Patch.{Patch}
 use Rattle.gl_plain.specs.declared.memory.Region.{Region}
@@ -9,9 +9,9 @@ use Rattle.cb_shm.specs.Whole.{IsWholeScript}
 use Rattle.cb_shm.specs.declared.script.Script.{Script}
 use Rattle.gl_base.specs.declared.limits.TheConstants.{DATA_LIMIT, DEFAULT_SURFACE, DEFAULT_ENTRIES, LEAST_ENTRIES, MOST_ENTRIES, LAST_REGION, TOTAL_LIMIT}
 use Rattle.gl_plain.specs.declared.common_lines.CommonLine.{CommonLine}
-use Rattle.gl_plain.specs.declared.common_lines.CommonLine.TheVariants.{Ring, Oom, Lost}
+use Rattle.gl_plain.specs.declared.common_lines.CommonLine.TheVariants.{Ring, Oom, Lost, Compile, Link, OfAttribute, OfUniform, Validate}
 use Rattle.gl_plain.specs.declared.common_lines.AnswersDraft.{AnswersDraft}
-use Rattle.gl_plain.specs.CommonLines.{no_draft, answers_in, with_oom, with_lost}
+use Rattle.gl_plain.specs.CommonLines.{no_draft, answers_in, closed, with_attribute, with_compile, with_link, with_lost, with_oom, with_uniform, with_validate, IsSoundDraft}
 use Rattle.ring_script.specs.Limits.{total_bytes, IsWithinLimits}
 use Rattle.ring_script.specs.declared.draft.Draft.{Draft}
 use Rattle.ring_script.specs.declared.line.Line.{Line}
@@ -41,7 +41,7 @@ script_of draft = record {
 abbrev pub is_first : Draft → Bool
 is_first draft = is_none draft.ring && (length draft.regions == 0) && (length draft.opening == 0) && (length draft.timed == 0) && (length draft.puts == 0)
 
--- `ring` stands once, before any other line that says something but `oom` and `lost`, with 2 to 1,048,576 entries
+-- `ring` stands once, before any other line that says something but those on the driver's answers, with 2 to 1,048,576 entries
 unfoldable pub with_ring : Draft → ℕ → Option Draft
 with_ring draft n = if is_first draft && nat_le LEAST_ENTRIES n && nat_le n MOST_ENTRIES then Some (record draft { ring = Some n }) else None
 
@@ -72,22 +72,57 @@ abbrev pub with_answers : Draft → Option AnswersDraft → Option Draft
 with_answers draft None = None
 with_answers draft (Some answers) = Some (record draft { answers = answers })
 
--- a line that traces have as well: `oom` and `lost` stand anywhere, `oom` with each question once, `lost` once
+-- a line that traces have as well: those on the driver's answers stand anywhere, `oom` with each question once, `lost` once, and `attr` and
+-- `uniform` in the list of the last link
 unfoldable pub with_common : Draft → CommonLine → Option Draft
 with_common draft (Ring n) = with_ring draft n
 with_common draft (Oom question) = with_answers draft (with_oom draft.answers question)
 with_common draft (Lost call) = with_answers draft (with_lost draft.answers call)
+with_common draft (Compile v) = with_answers draft (with_compile draft.answers v)
+with_common draft (Link v) = with_answers draft (with_link draft.answers v)
+with_common draft (OfAttribute a) = with_answers draft (with_attribute draft.answers a)
+with_common draft (OfUniform u) = with_answers draft (with_uniform draft.answers u)
+with_common draft (Validate v) = with_answers draft (with_validate draft.answers v)
+
+-- whether a line that traces have as well ends the list of the last link
+abbrev pub ends_list_of_link : CommonLine → Bool
+ends_list_of_link (Ring n) = true
+ends_list_of_link (Oom question) = true
+ends_list_of_link (Lost call) = true
+ends_list_of_link (Compile v) = true
+ends_list_of_link (Link v) = true
+ends_list_of_link (OfAttribute a) = false
+ends_list_of_link (OfUniform u) = false
+ends_list_of_link (Validate v) = true
+
+-- whether a line does: empty lines, comments, and lines on the link's attributes and uniforms do not
+abbrev pub ends_list : Line → Bool
+ends_list PassedOver = false
+ends_list (OfRegion r) = true
+ends_list (Opening p) = true
+ends_list (At t) = true
+ends_list (Put put) = true
+ends_list (Common line) = ends_list_of_link line
+
+-- what the lines before say, where the list of the last link ends before this line if the line ends it
+abbrev pub before_line : Draft → Line → Draft
+before_line draft line = if ends_list line then record draft { answers = closed draft.answers } else draft
+
+-- what the lines before say together with a line that stands after them
+unfoldable pub with_line : Draft → Line → Option Draft
+with_line draft PassedOver = Some draft
+with_line draft (OfRegion r) = with_region draft r
+with_line draft (Opening p) = with_opening draft p
+with_line draft (At t) = with_timed draft t
+with_line draft (Put put) = Some (with_put draft put)
+with_line draft (Common line) = with_common draft line
 
 -- what the lines before say together with a line that may stand after them
 unfoldable pub draft_after : Draft → Line → Option Draft
-draft_after draft PassedOver = Some draft
-draft_after draft (OfRegion r) = with_region draft r
-draft_after draft (Opening p) = with_opening draft p
-draft_after draft (At t) = with_timed draft t
-draft_after draft (Put put) = Some (with_put draft put)
-draft_after draft (Common line) = with_common draft line
+draft_after draft line = with_line (before_line draft line) line
 
--- the lines so far say a whole script within the limits
+-- the lines so far say a whole script within the limits, and answers that a driver may give
 pub record IsSound (draft : Draft) : Type 0 where
   pub whole : IsWholeScript (script_of draft)
   pub limits : IsWithinLimits (script_of draft)
+  pub answers : IsSoundDraft draft.answers

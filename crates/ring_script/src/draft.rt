@@ -1,10 +1,10 @@
 //! Where each kind of line may stand, and what the lines so far say.
-ghost use Rattle.std.specs.Prelude.{◌≡◌, ◌≤◌, if◌then◌else◌, IfOk};
+ghost use Rattle.std.specs.Prelude.{◌≡◌, ◌≤◌, if◌then◌else◌, IfOk, OnOk};
 ghost use Rattle.gl_plain.specs.Regions.{is_inside};
 ghost use Rattle.gl_base.specs.declared.limits.TheConstants.{TOTAL_LIMIT};
 ghost use Rattle.cb_shm.specs.Hostile.{listed_size, script_sizes};
 ghost use Rattle.ring_script.specs.Limits.{listed_bytes, total_bytes, IsWithinLimits};
-ghost use Rattle.ring_script.specs.Rules.{draft_after, empty_draft, entries_of, is_first, script_of, with_common, with_opening, with_put, with_region, with_ring, with_timed, IsSound};
+ghost use Rattle.ring_script.specs.Rules.{before_line, draft_after, empty_draft, ends_list, ends_list_of_link, entries_of, is_first, script_of, with_common, with_opening, with_put, with_region, with_ring, with_timed, IsSound};
 
 use crate::line::Line;
 use cb_shm::Script;
@@ -50,6 +50,24 @@ fn listed_bytes(regions: &[Region]) -> u64
         bytes += u64::from(region.size);
     }
     bytes
+}
+
+/// Whether a line of answers ends the list of the last link.
+fn ends_list_of_link(line: &CommonLine) -> bool
+    ensures { result ≡ ends_list_of_link line.now }
+{
+    !matches!(line, CommonLine::OfAttribute(_) | CommonLine::OfUniform(_))
+}
+
+/// Whether a line ends the list of the last link.
+fn ends_list(line: &Line) -> bool
+    ensures { result ≡ ends_list line.now }
+{
+    match line {
+        Line::PassedOver => false,
+        Line::Common(line) => ends_list_of_link(line),
+        _ => true,
+    }
 }
 
 impl Draft {
@@ -172,35 +190,51 @@ impl Draft {
     }
 
     #[tactic(auto, unfolding(crate::specs::Rules::with_common, crate::specs::Rules::with_ring))]
-    fn take_common(&mut self, line: CommonLine) -> Result<bool, AllocError>
+    fn take_common(&mut self, alloc: Global, line: CommonLine) -> Result<bool, AllocError>
         ensures { IfOk result (λ taken. with_common self.old line ≡ (if taken then Some self.new else None)) }
     {
         match line {
             CommonLine::Ring(entries) => Ok(self.take_ring(entries)),
             CommonLine::Oom(question) => self.answers.take_oom(question),
             CommonLine::Lost(call) => Ok(self.answers.take_lost(call)),
+            CommonLine::Compile(verdict) => self.answers.take_compile(verdict),
+            CommonLine::Link(verdict) => self.answers.take_link(alloc, verdict),
+            CommonLine::OfAttribute(attribute) => self.answers.take_attribute(attribute),
+            CommonLine::OfUniform(uniform) => self.answers.take_uniform(uniform),
+            CommonLine::Validate(verdict) => self.answers.take_validate(verdict),
         }
     }
 
+    /// Ends the list of the last link, where a line ends it.
+    fn close_before(&mut self, line: &Line) -> Result<(), AllocError>
+        ensures ok { OnOk result (self.new ≡ before_line self.old line.now) }
+    {
+        if ends_list(line) {
+            self.answers.close()?;
+        }
+        Ok(())
+    }
+
     /// Takes a line, where it may stand after those before it. The answer is whether it may.
-    #[tactic(auto, unfolding(crate::specs::Rules::draft_after))]
-    pub fn take(&mut self, line: Line) -> Result<bool, AllocError>
+    #[tactic(auto, using(crate::proofs::Soundness::sound_before), unfolding(crate::specs::Rules::draft_after, crate::specs::Rules::with_line))]
+    pub fn take(&mut self, alloc: Global, line: Line) -> Result<bool, AllocError>
         requires { IsSound self.old }
         ensures { IfOk result (λ taken. draft_after self.old line ≡ (if taken then Some self.new else None)) }
     {
+        self.close_before(&line)?;
         match line {
             Line::PassedOver => Ok(true),
             Line::Region(region) => self.take_region(region),
             Line::Opening(patch) => self.take_opening(patch),
             Line::At(timed) => self.take_timed(timed),
             Line::Put(put) => self.take_put(put),
-            Line::Common(line) => self.take_common(line),
+            Line::Common(line) => self.take_common(alloc, line),
         }
     }
 
     /// The script that the lines say.
-    pub fn into_script(self) -> Script
-        ensures { result ≡ script_of self }
+    pub fn into_script(self) -> Result<Script, AllocError>
+        ensures { IfOk result (λ script. script ≡ script_of self) }
     {
         let entries = self.entries();
         let Draft {
@@ -211,14 +245,15 @@ impl Draft {
             puts,
             answers,
         } = self;
-        Script {
+        let answers = answers.into_answers()?;
+        Ok(Script {
             surface: DEFAULT_SURFACE,
             entries,
             regions,
             opening,
             timed,
             puts,
-            answers: answers.into_answers(),
-        }
+            answers,
+        })
     }
 }

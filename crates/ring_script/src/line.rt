@@ -101,12 +101,12 @@ fn put_line(text: &[u8]) -> Option<Line>
 }
 
 /// A line that traces have as well.
-fn shared_line(word: &[u8], rest: &[u8]) -> Option<Line>
-    ensures { result ≡ common_in (common_by_word word.now rest.now) }
+fn shared_line(alloc: Global, word: &[u8], rest: &[u8]) -> Result<Option<Line>, AllocError>
+    ensures { IfOk result (λ line. line ≡ common_in (common_by_word word.now rest.now)) }
 {
-    match common_line(word, rest) {
-        Some(line) => Some(Line::Common(line)),
-        None => None,
+    match common_line(alloc, word, rest)? {
+        Some(line) => Ok(Some(Line::Common(line))),
+        None => Ok(None),
     }
 }
 
@@ -119,7 +119,7 @@ fn line_with_word(alloc: Global, word: &[u8], rest: &[u8]) -> Result<Option<Line
         b"bytes" => opening_line(alloc, rest),
         b"at" => at_line(alloc, rest),
         b"put" => Ok(put_line(rest)),
-        _ => Ok(shared_line(word, rest)),
+        _ => shared_line(alloc, word, rest),
     }
 }
 

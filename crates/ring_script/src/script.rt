@@ -1,5 +1,6 @@
 //! The script that a text stands for, or its first line outside the grammar.
-ghost use Rattle.std.specs.Prelude.{◌≡◌, ◌<◌, ◌^◌, ◌∷◌, ℕ, length, if◌then◌else◌, IfOk, IsErrOf};
+ghost use Rattle.std.specs.Prelude.{◌≡◌, ◌<◌, ◌^◌, ◌∷◌, ℕ, length, if◌then◌else◌, IfOk, IsErrOf, IsTrue};
+ghost use Rattle.gl_plain.specs.CommonLines.{are_sound_answers};
 ghost use Rattle.cb_shm.specs.Whole.{IsWholeScript};
 ghost use Rattle.ring_script.specs.Limits.{IsWithinLimits};
 ghost use Rattle.ring_script.specs.Rules.{IsSound};
@@ -50,13 +51,14 @@ fn take_text(alloc: Global, draft: &mut Draft, text: &[u8]) -> Result<bool, Allo
     ensures taken { IfOk result (λ taken. draft_with text.now draft.old ≡ (if taken then Some draft.new else None)) }
 {
     match read_line(alloc, text)? {
-        Some(line) => draft.take(line),
+        Some(line) => draft.take(alloc, line),
         None => Ok(false),
     }
 }
 
 /// The script that a text stands for. Each line is read once, in place, and decoded bytes are not copied again. A script that was
-/// read describes a memory: its regions have numbers of their own and sizes within the limits, and what is written lies in them.
+/// read describes a memory: its regions have numbers of their own and sizes within the limits, and what is written lies in them. What it
+/// says of compilations, links and validations is such as a driver may say.
 ///
 /// # Errors
 ///
@@ -66,6 +68,7 @@ pub fn read_script(alloc: Global, text: &[u8]) -> Result<Script, ReadRefusal>
     ensures ok { IfOk result (λ script. script_in text.now ≡ Ok script) }
     ensures whole { IfOk result (λ script. IsWholeScript script) }
     ensures limits { IfOk result (λ script. IsWithinLimits script) }
+    ensures answers { IfOk result (λ script. IsTrue (are_sound_answers script.answers)) }
     ensures bad { (k : ℕ) → IsErrOf result (ReadRefusal.BadLine k) → script_in text.now ≡ Err k }
     ensures first { (k : ℕ) → IsErrOf result (ReadRefusal.BadLine k) → IsFirstBad (lines_of text.now) k }
 {
@@ -81,5 +84,5 @@ pub fn read_script(alloc: Global, text: &[u8]) -> Result<Script, ReadRefusal>
         }
         rest = more;
     }
-    Ok(draft.into_script())
+    Ok(draft.into_script()?)
 }

@@ -1,12 +1,45 @@
 //! One script on the happy path. The grammar's edges are rows of gles2_rows.
 use crate::read_script;
+use gl_plain::{Answer, Answers};
+use std::process::Abort;
 use std::test::Fail;
+
+/// What the lines on compilations, links and validations say.
+fn check_answers(rt: &impl Abort, answers: &Answers) {
+    assert_eq!(rt;
+        (
+            answers.compile.len(),
+            answers.link.len(),
+            answers.validate.len()
+        ),
+        (1, 2, 1)
+    );
+    let Some(Answer::Compile { ok: false, log }) = answers.compile.get(0) else {
+        panic!(rt; "no failed compilation");
+    };
+    assert_eq!(rt; log.as_slice(), b"no".as_slice());
+    let Some(Answer::Link(link)) = answers.link.get(1) else {
+        panic!(rt; "no link");
+    };
+    assert!(rt; link.ok);
+    let attributes: [(&[u8], u32); 2] = [(b"pos", 14), (b"a", 13)];
+    assert_eq!(rt; link.attributes.len(), attributes.len());
+    for (attribute, (name, location)) in link.attributes.as_slice().iter().zip(attributes) {
+        assert_eq!(rt; attribute.name.as_slice(), name);
+        assert_eq!(rt; attribute.location, location);
+    }
+    let Some(uniform) = link.uniforms.get(0) else {
+        panic!(rt; "no uniform");
+    };
+    assert_eq!(rt; uniform.name.as_slice(), b"m[0]".as_slice());
+    assert_eq!(rt; uniform.size, 1024u32);
+}
 
 #[test]
 #[tactic(auto, using(crate::proofs::TextLines::few_lines))]
 fn a_script_is_what_its_lines_say(rt: HostRuntime) -> Result<(), Fail> {
     let text =
-        b"# all lines\nring 4\nregion 7 3\nbytes 0 0 01fF\nat 9 7 1 0a\nput 0xA\n\nbytes 7 1 Ab\nregion 1 0\nput 2\noom 3\nat 0x8 0 16 -\nlost 9\noom 0x0";
+        b"# all lines\nring 4\nregion 7 3\nbytes 0 0 01fF\nat 9 7 1 0a\nput 0xA\n\nbytes 7 1 Ab\nregion 1 0\nput 2\noom 3\nat 0x8 0 16 -\nlost 9\noom 0x0\ncompile fail 6e6F\nlink fail -\nlink ok 00\nattr pos FLOAT_VEC3 14\n\nattr a 0x1406 13\nuniform m[0] FLOAT_MAT4 1024\nvalidate ok -";
     let script = read_script(rt.alloc(), text)?;
     assert_eq!(rt; script.entries, 4);
     assert_eq!(rt; script.puts.as_slice(), [10u32, 2].as_slice());
@@ -29,5 +62,6 @@ fn a_script_is_what_its_lines_say(rt: HostRuntime) -> Result<(), Fail> {
         assert_eq!(rt; (one.copy, one.region, one.offset), (copy, region, offset));
         assert_eq!(rt; one.bytes.as_slice(), bytes);
     }
+    check_answers(&rt, &script.answers);
     Ok(())
 }

@@ -1,14 +1,16 @@
 -- Journals whose answers are those of an oracle.
-use Rattle.std.proofs.Common.{◌≡◌, List, [], ◌∷◌, ◌++◌, refl, sym, ◌∙◌, ap}
+use Rattle.std.proofs.Common.{◌≡◌, List, [], ◌∷◌, ◌++◌, refl, ◌∙◌, ap}
 use Rattle.gl_plain.specs.declared.driver_calls.DriverCall.{DriverCall}
-use Rattle.gl_plain.specs.declared.driver_calls.DriverCall.TheVariants.{Object}
+use Rattle.gl_plain.specs.declared.driver_calls.DriverCall.TheVariants.{Object, Program}
 use Rattle.gl_plain.specs.declared.driver_calls.DriverEntry.{DriverEntry}
 use Rattle.gl_plain.specs.declared.driver_calls.ObjectDriver.{ObjectDriver}
 use Rattle.gl_plain.specs.declared.driver_calls.ObjectDriver.TheVariants.{GenBuffer, BufferData}
+use Rattle.gl_plain.specs.declared.driver_calls.ProgramDriver.{ProgramDriver}
+use Rattle.gl_plain.specs.declared.driver_calls.ProgramDriver.TheVariants.{CreateShader, CreateProgram, CompileShader, LinkProgram, ValidateProgram}
 use Rattle.gl_plain.specs.declared.driver_calls.Stored.{Stored}
 use Rattle.gl_plain.specs.declared.driver_calls.Stored.TheVariants as room
-use Rattle.gl_plain.specs.Oracle.{Oracle, first, behind, led_by}
-use Rattle.gl_plain.specs.driver.Answers.{told, told_call, told_object, told_stored, stored_answer, object_answer, answer_to, behind_object, behind_call, behind_entries, AreAnsweredBy}
+use Rattle.gl_plain.specs.Oracle.{Oracle, first, led_by}
+use Rattle.gl_plain.specs.driver.Answers.{told, told_call, told_object, told_of_program, told_stored, stored_answer, object_answer, program_answer, answer_to, behind_object, behind_program, behind_call, behind_entries, AreAnsweredBy}
 use Rattle.gl_plain.proofs.Journals.{led_by-behind}
 
 told_room : (s : Stored) (o : Oracle) → told_stored (stored_answer s) o ≡ record o { stored = led_by s o.stored }
@@ -17,13 +19,22 @@ told_room room.Oom o = refl
 
 -- what an oracle answers tells the oracle, before those answers that are left
 told_behind_object : (call : ObjectDriver) (o : Oracle) → told_object call (object_answer o call) (behind_object call o) ≡ o
-told_behind_object GenBuffer o = λ i. record { buffers = λ k. led_by-behind o.buffers k i; stored = o.stored }
+told_behind_object GenBuffer o = λ i. record o { buffers = λ k. led_by-behind o.buffers k i }
 told_behind_object (BufferData target bytes usage) o =
-    told_room (first o.stored) (behind_object (BufferData target bytes usage) o) ∙ (λ i. record { buffers = o.buffers; stored = λ k. led_by-behind o.stored k i })
+    told_room (first o.stored) (behind_object (BufferData target bytes usage) o) ∙ (λ i. record o { stored = λ k. led_by-behind o.stored k i })
 told_behind_object call o = refl
+
+told_behind_program : (call : ProgramDriver) (o : Oracle) → told_of_program call (program_answer o call) (behind_program call o) ≡ o
+told_behind_program (CreateShader kind) o = λ i. record o { programs = λ k. led_by-behind o.programs k i }
+told_behind_program CreateProgram o = λ i. record o { programs = λ k. led_by-behind o.programs k i }
+told_behind_program (CompileShader name) o = λ i. record o { compile = λ k. led_by-behind o.compile k i }
+told_behind_program (LinkProgram name) o = λ i. record o { link = λ k. led_by-behind o.link k i }
+told_behind_program (ValidateProgram name) o = λ i. record o { validate = λ k. led_by-behind o.validate k i }
+told_behind_program call o = refl
 
 pub told_behind_call : (call : DriverCall) (o : Oracle) → told_call call (answer_to o call) (behind_call call o) ≡ o
 told_behind_call (Object call) o = told_behind_object call o
+told_behind_call (Program call) o = told_behind_program call o
 
 pub told_behind : (o : Oracle) (es : List DriverEntry) → AreAnsweredBy o es → told es (behind_entries es o) ≡ o
 told_behind o [] h = refl

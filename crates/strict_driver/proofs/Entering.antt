@@ -1,5 +1,5 @@
 -- One more call of a strict driver, and the answers that it is loaded with.
-use Rattle.std.proofs.Common.{◌≡◌, ◌<◌, ◌≤◌, ℕ, zero, suc, ◌+◌, Bool, true, false, ◌||◌, List, [], ◌∷◌, ◌++◌, length, Option, None, Some, IfSome, refl, sym, ◌∙◌, ap, subst, arith, zero-add, add-zero, append_assoc, append-nil, length-append, inr, ◌==◌, if◌then◌else◌}
+use Rattle.std.proofs.Common.{◌≡◌, ◌<◌, ◌≤◌, ℕ, ◌+◌, Bool, true, false, ◌||◌, List, [], ◌∷◌, ◌++◌, length, Option, None, Some, IfSome, IsTrue, refl, sym, ◌∙◌, ap, subst, arith, zero-add, add-zero, length-append, inr, ◌==◌, if◌then◌else◌, slice_get}
 use Rattle.std.specs.FinSet as set
 use Rattle.std.specs.List.{list_any}
 use Rattle.std.specs.List.Sorted.{IsNonDecreasing, IsPermutation}
@@ -7,18 +7,19 @@ use Rattle.std.proofs.lemmas.List.Sorted.{list_any-IsPermutation, IsNonDecreasin
 use Rattle.gl_plain.specs.declared.driver_calls.DriverEntry.{DriverEntry}
 use Rattle.gl_plain.specs.declared.driver_calls.Answer.{Answer}
 use Rattle.gl_plain.specs.declared.driver_calls.Answers.{Answers}
-use Rattle.gl_plain.specs.declared.driver_calls.DriverCall.TheVariants.{Object}
-use Rattle.gl_plain.specs.declared.driver_calls.ObjectDriver.{ObjectDriver}
+use Rattle.gl_plain.specs.declared.driver_calls.DriverCall.{DriverCall}
+use Rattle.gl_plain.specs.declared.driver_calls.DriverCall.TheVariants.{Object, Program}
 use Rattle.gl_plain.specs.declared.driver_calls.ObjectDriver.TheVariants.{GenBuffer, BufferData}
+use Rattle.gl_plain.specs.declared.driver_calls.ProgramDriver.TheVariants.{CreateShader, CreateProgram, CompileShader, LinkProgram, ValidateProgram}
 use Rattle.gl_plain.specs.declared.driver_calls.Stored.{Stored}
 use Rattle.gl_plain.specs.declared.driver_calls.Stored.TheVariants as room
+use Rattle.gl_plain.specs.CommonLines.{are_sound_answers}
 use Rattle.gl_plain.specs.State.{DriverTables, DriverState, opening_driver, opening_tables}
-use Rattle.gl_plain.specs.driver.Answers.{IsObjectAnswer, IsStored, AreAnsweredBy, answer_to, object_answer, behind_object, behind_entries, stored_answer, told}
-use Rattle.gl_plain.specs.subjects.Images.{opening_contents}
-use Rattle.gl_plain.specs.driver.Allowed.{IsObjectAllowed}
-use Rattle.gl_plain.specs.driver.Effect.{after_object}
+use Rattle.gl_plain.specs.driver.Answers.{IsAnswer, IsStored, answer_to, behind_call, behind_entries, stored_answer, told}
+use Rattle.gl_plain.specs.driver.Allowed.{IsAllowed}
+use Rattle.gl_plain.specs.driver.Effect.{after_buffer_data, tables_after}
 use Rattle.gl_plain.specs.Journal.{IsLegalEntry, state_after}
-use Rattle.gl_plain.specs.Oracle.{Oracle, first, answers_of, counted_from, stored_at, no_answers}
+use Rattle.gl_plain.specs.Oracle.{Oracle, first, answers_of, stored_at, compile_in, link_in, validate_in}
 use Rattle.gl_plain.proofs.Journals.{state_after-append, IsLegal-append}
 use Rattle.gl_driver.specs.History.{Served, is_oom}
 use Rattle.strict_driver.specs.declared.counts.Counts.{Counts}
@@ -28,77 +29,102 @@ use Rattle.strict_driver.specs.StrictView.{StrictView}
 use Rattle.strict_driver.specs.declared.strict.StrictDriver.TheInside.{Inside}
 use Rattle.strict_driver.specs.StrictInside.{view_of, IsStrict, IsStrictJournal, IsCounted, IsInStep}
 use Rattle.strict_driver.specs.StrictHistory.{history_of, answers_left, Continues}
-use Rattle.strict_driver.specs.TableState.{state_of}
+use Rattle.strict_driver.specs.TableState.{Follow, left_by, state_of}
 use Rattle.strict_driver.proofs.Answered.{behind_entries-append, AreAnsweredBy-append, told_behind}
 use Rattle.strict_driver.proofs.NamesGiven.{next_is_fresh, up_to_next}
+use Rattle.strict_driver.proofs.Sound.{compile_sound, link_sound, validate_sound}
 
 is_stored : (s : Stored) → IsStored (stored_answer s)
 is_stored room.Done = tt
 is_stored room.Oom = tt
 
 -- the next answer is of the form of its call
-pub next_fits : (d : DriverState) (oom : List ℕ) (n : Counts) (call : ObjectDriver) → d.tables.given ≡ given_by n → IsObjectAnswer d call (object_answer (answers_from oom n) call)
-next_fits d oom n GenBuffer is = rw is (next_is_fresh n.buffers (n.buffers + 1 + 0) (omega arith))
-next_fits d oom n (BufferData target bytes usage) is = is_stored (stored_at oom (n.stores + 0))
-next_fits d oom n call is = tt
+pub next_fits : (d : DriverState) (loaded : Answers) (n : Counts) (call : DriverCall) → IsTrue (are_sound_answers loaded) → d.tables.given ≡ given_by n → IsAnswer d call (answer_to (answers_from loaded n) call)
+next_fits d loaded n (Object GenBuffer) sound is = rw is (next_is_fresh n.buffers (n.buffers + 1 + 0) (omega arith))
+next_fits d loaded n (Object (BufferData target bytes usage)) sound is = is_stored (stored_at loaded.oom (n.stores + 0))
+next_fits d loaded n (Object call) sound is = tt
+next_fits d loaded n (Program (CreateShader kind)) sound is = rw is (next_is_fresh n.programs (n.programs + 1 + 0) (omega arith))
+next_fits d loaded n (Program CreateProgram) sound is = rw is (next_is_fresh n.programs (n.programs + 1 + 0) (omega arith))
+next_fits d loaded n (Program (CompileShader name)) sound is = compile_sound loaded sound (n.compiles + 0)
+next_fits d loaded n (Program (LinkProgram name)) sound is = link_sound loaded sound (n.links + 0)
+next_fits d loaded n (Program (ValidateProgram name)) sound is = validate_sound loaded sound (n.validates + 0)
+next_fits d loaded n (Program call) sound is = tt
 
-module _ (t : DriverTables) (oom : List ℕ) (n n2 : Counts) (is : t.given ≡ given_by n) where
-  stored_gives : (target : _) (bytes : List ℕ) (usage : _) (s : Stored) → n2.buffers ≡ n.buffers → (after_object t (BufferData target bytes usage) (stored_answer s)).given ≡ given_by n2
-  stored_gives target bytes usage room.Done same = is ∙ (λ i. record { buffers = up_to (sym same i) })
-  stored_gives target bytes usage room.Oom same = is ∙ (λ i. record { buffers = up_to (sym same i) })
+module _ (t : DriverTables) (loaded : Answers) (n n2 : Counts) (is : t.given ≡ given_by n) where
+  -- so many names of each kind were given
+  given_as : (buffers programs : ℕ) → n2.buffers ≡ buffers → n2.programs ≡ programs → record { buffers = up_to buffers; programs = up_to programs } ≡ given_by n2
+  given_as buffers programs b p = λ i. record { buffers = up_to (sym b i); programs = up_to (sym p i) }
+
+  stored_gives : (target : _) (bytes : List ℕ) (usage : _) (s : Stored) → (after_buffer_data t target bytes usage (stored_answer s)).given ≡ t.given
+  stored_gives target bytes usage room.Done = refl
+  stored_gives target bytes usage room.Oom = refl
+
+  one_more_buffer : n2.buffers ≡ n.buffers + 1 → n2.programs ≡ n.programs → record t.given { buffers = set.insert t.given.buffers (n.buffers + 1 + 0) } ≡ given_by n2
+  one_more_buffer b p =
+      (λ i. record (is i) { buffers = set.insert (is i).buffers (add-zero (n.buffers + 1) i) })
+      ∙ (λ i. record { buffers = sym (up_to_next n.buffers) i; programs = up_to n.programs }) ∙ given_as (n.buffers + 1) n.programs b p
+
+  one_more_program : n2.buffers ≡ n.buffers → n2.programs ≡ n.programs + 1 → record t.given { programs = set.insert t.given.programs (n.programs + 1 + 0) } ≡ given_by n2
+  one_more_program b p =
+      (λ i. record (is i) { programs = set.insert (is i).programs (add-zero (n.programs + 1) i) })
+      ∙ (λ i. record { buffers = up_to n.buffers; programs = sym (up_to_next n.programs) i }) ∙ given_as n.buffers (n.programs + 1) b p
+
+  none_more : n2.buffers ≡ n.buffers → n2.programs ≡ n.programs → t.given ≡ given_by n2
+  none_more b p = is ∙ given_as n.buffers n.programs b p
+
+  -- what the two counts are, by the answers that are left
+  counts_are : (b p : ℕ) (o : Oracle) → answers_from loaded n2 ≡ o → o.buffers 0 ≡ b + 1 → o.programs 0 ≡ p + 1 → (n2.buffers ≡ b) × (n2.programs ≡ p)
+  counts_are b p o counted buffers programs =
+      let nb : n2.buffers + 1 + 0 ≡ o.buffers 0 = ap (λ (o : Oracle). o.buffers 0) counted in
+      let np : n2.programs + 1 + 0 ≡ o.programs 0 = ap (λ (o : Oracle). o.programs 0) counted in
+      (omega arith, omega arith)
 
   -- as many names were given as are counted
-  pub given_more : (call : ObjectDriver) → answers_from oom n2 ≡ behind_object call (answers_from oom n) → (after_object t call (object_answer (answers_from oom n) call)).given ≡ given_by n2
-  given_more GenBuffer counted =
-      let next : n2.buffers + 1 + 0 ≡ n.buffers + 1 + 1 = ap (λ (o : Oracle). o.buffers 0) counted in
-      let more : n2.buffers ≡ n.buffers + 1 = omega arith in
-      (λ i. record { buffers = set.insert (is i).buffers (add-zero (n.buffers + 1) i) }) ∙ (λ i. record { buffers = (sym (up_to_next n.buffers) ∙ ap up_to (sym more)) i })
-  given_more (BufferData target bytes usage) counted =
-      let next : n2.buffers + 1 + 0 ≡ n.buffers + 1 + 0 = ap (λ (o : Oracle). o.buffers 0) counted in
-      stored_gives target bytes usage (stored_at oom (n.stores + 0)) (omega arith)
-  given_more call counted =
-      let next : n2.buffers + 1 + 0 ≡ n.buffers + 1 + 0 = ap (λ (o : Oracle). o.buffers 0) counted in
-      let same : n2.buffers ≡ n.buffers = omega arith in
-      is ∙ (λ i. record { buffers = up_to (sym same i) })
+  pub given_more : (call : DriverCall) → answers_from loaded n2 ≡ behind_call call (answers_from loaded n) → (tables_after t call (answer_to (answers_from loaded n) call)).given ≡ given_by n2
+  given_more (Object GenBuffer) counted =
+      let now = counts_are (n.buffers + 1) n.programs (behind_call (Object GenBuffer) (answers_from loaded n)) counted (omega arith) (omega arith) in
+      one_more_buffer now.0 now.1
+  given_more (Object (BufferData target bytes usage)) counted =
+      let now = counts_are n.buffers n.programs (behind_call (Object (BufferData target bytes usage)) (answers_from loaded n)) counted (omega arith) (omega arith) in
+      stored_gives target bytes usage (stored_at loaded.oom (n.stores + 0)) ∙ none_more now.0 now.1
+  given_more (Object call) counted =
+      let now = counts_are n.buffers n.programs (behind_call (Object call) (answers_from loaded n)) counted (omega arith) (omega arith) in
+      none_more now.0 now.1
+  given_more (Program (CreateShader kind)) counted =
+      let now = counts_are n.buffers (n.programs + 1) (behind_call (Program (CreateShader kind)) (answers_from loaded n)) counted (omega arith) (omega arith) in
+      one_more_program now.0 now.1
+  given_more (Program CreateProgram) counted =
+      let now = counts_are n.buffers (n.programs + 1) (behind_call (Program CreateProgram) (answers_from loaded n)) counted (omega arith) (omega arith) in
+      one_more_program now.0 now.1
+  given_more (Program call) counted =
+      let now = counts_are n.buffers n.programs (behind_call (Program call) (answers_from loaded n)) counted (omega arith) (omega arith) in
+      none_more now.0 now.1
 
--- the tables are those of the state that the journal leaves
-pub in_state : (tables : Tables) (js : List DriverEntry) (n : Counts) → IsInStep tables js n → state_of js tables ≡ (state_after (opening_driver tables.surface) js).tables
-in_state tables js n step = ap (λ (j : List DriverEntry). state_of j tables) (sym (append-nil js)) ∙ step.state []
-
--- the tables are the same, whatever comes behind the journal
-pub settled : (tables : Tables) (js : List DriverEntry) (n : Counts) → IsInStep tables js n → (more : List DriverEntry) → state_of (js ++ more) tables ≡ state_of js tables
-settled tables js n step more = step.state more ∙ sym (in_state tables js n step)
-
-module _ (js now : List DriverEntry) (n n2 : Counts) (loaded : Answers) (call : ObjectDriver) (answer : Answer) (is : now ≡ js ++ (record { call = Object call; answer = answer }) ∷ [])
-    (counted : answers_from loaded.oom n2 ≡ behind_object call (answers_from loaded.oom n)) (was : IsCounted js n loaded) (next : answer ≡ object_answer (behind_entries js (answers_of loaded)) call) where
+module _ (js now : List DriverEntry) (n n2 : Counts) (loaded : Answers) (call : DriverCall) (answer : Answer) (is : now ≡ js ++ (record { call = call; answer = answer }) ∷ [])
+    (counted : answers_from loaded n2 ≡ behind_call call (answers_from loaded n)) (was : IsCounted js n loaded) (next : answer ≡ answer_to (behind_entries js (answers_of loaded)) call) where
   abbrev entry : DriverEntry
-  entry = record { call = Object call; answer = answer }
+  entry = record { call = call; answer = answer }
 
-  next_counted : answer ≡ object_answer (answers_from loaded.oom n) call
-  next_counted = next ∙ ap (λ (o : Oracle). object_answer o call) was.left
+  next_counted : answer ≡ answer_to (answers_from loaded n) call
+  next_counted = next ∙ ap (λ (o : Oracle). answer_to o call) was.left
 
   -- the counts follow the journal by one entry
   pub counted_more : IsCounted now n2 loaded
   counted_more = record {
-    left = ap (λ (j : List DriverEntry). behind_entries j (answers_of loaded)) is ∙ behind_entries-append js (entry ∷ []) (answers_of loaded) ∙ ap (behind_object call) was.left ∙ sym counted;
+    left = ap (λ (j : List DriverEntry). behind_entries j (answers_of loaded)) is ∙ behind_entries-append js (entry ∷ []) (answers_of loaded) ∙ ap (behind_call call) was.left ∙ sym counted;
     sorted = was.sorted;
+    sound = was.sound;
   }
 
-  -- a call that is allowed is legal with its next answer
-  pub legal_more : (d : DriverState) → d.tables.given ≡ given_by n → IsObjectAllowed d.tables call → IsLegalEntry d entry
-  legal_more d given allowed = record { allowed = allowed; answered = rw next_counted (next_fits d loaded.oom n call given) }
-
   -- and so do the tables
-  pub in_step_more : (tables tables2 : Tables) → IsInStep tables js n → ((more : List DriverEntry) → state_of (js ++ entry ∷ more) tables2 ≡ after_object (state_of (js ++ entry ∷ more) tables) call answer) → tables2.surface ≡ tables.surface
-      → IsInStep tables2 now n2
+  pub in_step_more : (tables tables2 : Tables) → IsInStep tables js n → Follow (tables_after (left_by tables.surface js).tables call answer) (js ++ entry ∷ []) tables2 → tables2.surface ≡ tables.surface → IsInStep tables2 now n2
   in_step_more tables tables2 step after surface =
-      let left : (state_after (opening_driver tables2.surface) now).tables ≡ after_object (state_after (opening_driver tables.surface) js).tables call answer =
-      (λ i. (state_after (opening_driver (surface i)) (is i)).tables) ∙ ap (λ (d : DriverState). d.tables) (state_after-append (opening_driver tables.surface) js (entry ∷ [])) in
+      let t = (left_by tables.surface js).tables in
+      let left : (left_by tables2.surface now).tables ≡ tables_after t call answer =
+      (λ i. (left_by (surface i) (is i)).tables) ∙ ap (λ (d : DriverState). d.tables) (state_after-append (opening_driver tables.surface) js (entry ∷ [])) in
       record {
-        state = λ more.
-            ap (λ (j : List DriverEntry). state_of (j ++ more) tables2) is ∙ ap (λ (j : List DriverEntry). state_of j tables2) (append_assoc js (entry ∷ []) more) ∙ after more
-            ∙ ap (λ (t : DriverTables). after_object t call answer) (step.state (entry ∷ more)) ∙ sym left;
-        given = ap (λ (t : DriverTables). t.given) left ∙ rw next_counted (given_more (state_after (opening_driver tables.surface) js).tables loaded.oom n n2 step.given call counted);
+        state = λ more. (λ i. state_of (left i) (is i ++ more) tables2) ∙ after more ∙ sym left;
+        given = ap (λ (t : DriverTables). t.given) left ∙ rw next_counted (given_more t loaded n n2 step.given call counted);
       }
 
 no_more : (js : List DriverEntry) (e : DriverEntry) → js ++ e ∷ [] ≡ [] → ⊥
@@ -148,8 +174,13 @@ served_more was now e more stop surface loaded losses ooms still legal next = re
 }
 
 -- nothing was answered yet
-pub same_start : (oom : List ℕ) → answers_from oom no_counts ≡ record { buffers = counted_from 1; stored = stored_at oom }
-same_start oom = λ i. record { buffers = counted_from 1; stored = λ k. stored_at oom (zero-add k i) }
+pub same_start : (loaded : Answers) → answers_from loaded no_counts ≡ answers_of loaded
+same_start loaded = λ i. record (answers_of loaded) {
+  compile = λ k. compile_in (slice_get loaded.compile (zero-add k i));
+  link = λ k. link_in (slice_get loaded.link (zero-add k i));
+  validate = λ k. validate_in (slice_get loaded.validate (zero-add k i));
+  stored = λ k. stored_at loaded.oom (zero-add k i);
+}
 
 none_made : (lost : Option ℕ) → IfSome lost (λ n. 0 ≤ n)
 none_made None = tt
@@ -159,14 +190,14 @@ none_made (Some n) = omega arith
 pub strict_opening : (surface : ℕ × ℕ) (loaded : Answers) → IsStrictJournal surface [] loaded None
 strict_opening surface loaded = record { legal = tt; answered = tt; within = none_made loaded.lost; lost = λ lost. cc }
 
-pub counted_opening : (loaded : Answers) → IsNonDecreasing loaded.oom → IsCounted [] no_counts loaded
-counted_opening loaded sorted = record { left = sym (same_start loaded.oom); sorted = sorted }
+pub counted_opening : (loaded : Answers) → IsNonDecreasing loaded.oom → IsTrue (are_sound_answers loaded) → IsCounted [] no_counts loaded
+counted_opening loaded sorted sound = record { left = sym (same_start loaded); sorted = sorted; sound = sound }
 
 pub none_sorted : IsNonDecreasing []
 none_sorted = IsNonDecreasingBy-short (λ k. k) [] (omega arith)
 
-pub step_opening : (tables : Tables) (surface : ℕ × ℕ) → ((js : List DriverEntry) → state_of js tables ≡ opening_tables surface) → tables.surface ≡ surface → IsInStep tables [] no_counts
-step_opening tables surface opening same = record { state = λ more. opening more ∙ ap opening_tables (sym same); given = refl }
+pub step_opening : (tables : Tables) (surface : ℕ × ℕ) → ((js : List DriverEntry) → state_of (opening_tables surface) js tables ≡ opening_tables surface) → tables.surface ≡ surface → IsInStep tables [] no_counts
+step_opening tables surface opening same = record { state = λ more. (λ i. state_of (opening_tables (same i)) more tables) ∙ opening more ∙ ap opening_tables (sym same); given = refl }
 
 -- the order of the questions that find no room does not matter
 pub same_room : (oom sorted : List ℕ) → IsPermutation oom sorted → stored_at sorted ≡ stored_at oom
@@ -175,58 +206,59 @@ same_room oom sorted p = λ i k. stored_same k i where
   stored_same k = ap (λ b. if b then room.Oom else room.Done) (sym (list_any-IsPermutation (λ j. j == k) oom sorted p))
 
 -- a driver that goes on makes a call that is allowed, with its next answer
-module _ (a : Inside) (was : StrictView) (view_is : view_of a ≡ was) (w : IsStrict a) (call : ObjectDriver) (answer : Answer) (going : was.stop ≡ None) (allowed : IsObjectAllowed (history_of was).state.tables call)
-    (next : answer ≡ object_answer (answers_left was) call) where
+module _ (a : Inside) (was : StrictView) (view_is : view_of a ≡ was) (w : IsStrict a) (call : DriverCall) (answer : Answer) (going : was.stop ≡ None) (allowed : IsAllowed (history_of was).state call)
+    (next : answer ≡ answer_to (answers_left was) call) where
   still_going : a.stop ≡ None
   still_going = ap (λ (v : StrictView). v.stop) view_is ∙ going
 
   step : IsInStep a.tables a.journal a.counts
   step = w.in_step still_going
 
-  now_allowed : IsObjectAllowed (state_after (opening_driver a.tables.surface) a.journal).tables call
-  now_allowed = subst (λ (v : StrictView). IsObjectAllowed (history_of v).state.tables call) (sym view_is) allowed
+  now_allowed : IsAllowed (state_after (opening_driver a.tables.surface) a.journal) call
+  now_allowed = subst (λ (v : StrictView). IsAllowed (history_of v).state call) (sym view_is) allowed
 
-  now_next : answer ≡ object_answer (behind_entries a.journal (answers_of a.loaded)) call
-  now_next = subst (λ (v : StrictView). answer ≡ object_answer (answers_left v) call) (sym view_is) next
+  now_next : answer ≡ answer_to (behind_entries a.journal (answers_of a.loaded)) call
+  now_next = subst (λ (v : StrictView). answer ≡ answer_to (answers_left v) call) (sym view_is) next
 
-  now_counted : answer ≡ object_answer (answers_from a.loaded.oom a.counts) call
-  now_counted = now_next ∙ ap (λ (o : Oracle). object_answer o call) w.counted.left
+  now_counted : answer ≡ answer_to (answers_from a.loaded a.counts) call
+  now_counted = now_next ∙ ap (λ (o : Oracle). answer_to o call) w.counted.left
+
+  now_answered : IsAnswer (state_after (opening_driver a.tables.surface) a.journal) call answer
+  now_answered = rw now_counted (next_fits (state_after (opening_driver a.tables.surface) a.journal) a.loaded a.counts call w.counted.sound step.given)
 
   -- the tables may be changed
-  pub tables_allow : IsObjectAllowed (state_of a.journal a.tables) call
-  tables_allow = rw (in_state a.tables a.journal a.counts step) now_allowed
+  pub tables_allow : IsAllowed (left_by a.tables.surface a.journal) call
+  tables_allow = now_allowed
 
-  pub tables_answer : IsObjectAnswer (record { tables = state_of a.journal a.tables; contents = opening_contents }) call answer
-  tables_answer =
-      let given : (state_of a.journal a.tables).given ≡ given_by a.counts = ap (λ (t : DriverTables). t.given) (in_state a.tables a.journal a.counts step) ∙ step.given in
-      rw now_counted (next_fits (record { tables = state_of a.journal a.tables; contents = opening_contents }) a.loaded.oom a.counts call given)
+  pub tables_answer : IsAnswer (left_by a.tables.surface a.journal) call answer
+  tables_answer = now_answered
 
-  pub tables_settled : (more : List DriverEntry) → state_of (a.journal ++ more) a.tables ≡ state_of a.journal a.tables
-  tables_settled = settled a.tables a.journal a.counts step
+  pub tables_follow : Follow (left_by a.tables.surface a.journal).tables a.journal a.tables
+  tables_follow = step.state
 
-  now_legal : IsLegalEntry (state_after (opening_driver a.tables.surface) a.journal) (record { call = Object call; answer = answer })
-  now_legal = record { allowed = now_allowed; answered = rw now_counted (next_fits (state_after (opening_driver a.tables.surface) a.journal) a.loaded.oom a.counts call step.given) }
+  now_legal : IsLegalEntry (state_after (opening_driver a.tables.surface) a.journal) (record { call = call; answer = answer })
+  now_legal = record { allowed = now_allowed; answered = now_answered }
 
   -- the call is entered
-  module _ (now : List DriverEntry) (is : now ≡ a.journal ++ (record { call = Object call; answer = answer }) ∷ []) where
+  module _ (now : List DriverEntry) (is : now ≡ a.journal ++ (record { call = call; answer = answer }) ∷ []) where
     pub strict_entered : (surface : ℕ × ℕ) → surface ≡ a.tables.surface → IfSome was.loaded.lost (λ calls. length was.journal < calls) → IsStrictJournal surface now a.loaded a.stop
     strict_entered surface same within =
-        rw (same, still_going) (strict_more a.tables.surface a.journal now a.loaded (record { call = Object call; answer = answer }) is (rw still_going at w.journal) now_legal now_next
+        rw (same, still_going) (strict_more a.tables.surface a.journal now a.loaded (record { call = call; answer = answer }) is (rw still_going at w.journal) now_legal now_next
         (subst (λ (v : StrictView). IfSome v.loaded.lost (λ n. length v.journal < n)) (sym view_is) within))
 
-    pub counted_entered : (n2 : Counts) → answers_from a.loaded.oom n2 ≡ behind_object call (answers_from a.loaded.oom a.counts) → IsCounted now n2 a.loaded
+    pub counted_entered : (n2 : Counts) → answers_from a.loaded n2 ≡ behind_call call (answers_from a.loaded a.counts) → IsCounted now n2 a.loaded
     counted_entered n2 counted = counted_more a.journal now a.counts n2 a.loaded call answer is counted w.counted now_next
 
-    pub step_entered : (n2 : Counts) → answers_from a.loaded.oom n2 ≡ behind_object call (answers_from a.loaded.oom a.counts) → (tables2 : Tables)
-        → ((more : List DriverEntry) → state_of (a.journal ++ (record { call = Object call; answer = answer }) ∷ more) tables2 ≡ after_object (state_of (a.journal ++ (record { call = Object call; answer = answer }) ∷ more) a.tables) call answer)
+    pub step_entered : (n2 : Counts) → answers_from a.loaded n2 ≡ behind_call call (answers_from a.loaded a.counts) → (tables2 : Tables)
+        → Follow (tables_after (left_by a.tables.surface a.journal).tables call answer) (a.journal ++ (record { call = call; answer = answer }) ∷ []) tables2
         → tables2.surface ≡ a.tables.surface → IsInStep tables2 now n2
     step_entered n2 counted tables2 after surface = in_step_more a.journal now a.counts n2 a.loaded call answer is counted w.counted now_next a.tables tables2 step after surface
 
     pub served_entered : (b : StrictView) → b.journal ≡ now → b.stop ≡ a.stop → b.surface ≡ a.tables.surface → b.loaded ≡ a.loaded → b.losses ≡ a.losses → a.ooms ≤ b.ooms → (is_oom answer ≡ false → b.ooms ≡ a.ooms)
-        → Served history_of Continues was b (record { call = Object call; answer = answer } ∷ [])
+        → Served history_of Continues was b (record { call = call; answer = answer } ∷ [])
     served_entered b journal stop surface loaded losses ooms still =
-        subst (λ (v : StrictView). Served history_of Continues v b (record { call = Object call; answer = answer } ∷ [])) view_is
-        (served_more (view_of a) b (record { call = Object call; answer = answer }) (journal ∙ is) stop surface loaded losses ooms still now_legal now_next)
+        subst (λ (v : StrictView). Served history_of Continues v b (record { call = call; answer = answer } ∷ [])) view_is
+        (served_more (view_of a) b (record { call = call; answer = answer }) (journal ∙ is) stop surface loaded losses ooms still now_legal now_next)
 
 -- there is room where the next of the answers that are left says so
 pub room_left : (a : Inside) (was : StrictView) → view_of a ≡ was → IsStrict a → (wanting : Bool) → wanting ≡ list_any (λ n. n == a.counts.stores) a.loaded.oom → (if wanting then room.Oom else room.Done) ≡ first (answers_left was).stored

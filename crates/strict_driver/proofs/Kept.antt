@@ -6,7 +6,6 @@ use Rattle.std.specs.FinMap as map
 use Rattle.std.specs.Option.{option_map}
 use Rattle.gl_base.specs.declared.gl_enum.GlEnum.{GlEnum}
 use Rattle.gl_plain.specs.declared.driver_calls.DriverEntry.{DriverEntry}
-use Rattle.gl_plain.specs.declared.objects.Buffer.{Buffer}
 use Rattle.gl_plain.specs.subjects.Buffers.{BufferTables, binding, bound, buffer_sub_data_by, buffer_sub_data_effect, changed}
 use Rattle.strict_driver.specs.declared.buffers.KeptBuffer.{KeptBuffer}
 use Rattle.strict_driver.specs.declared.buffers.Buffers.{Buffers}

@@ -5,5 +5,7 @@ pub mod Placing
 pub mod Kept
 pub mod NamesGiven
 pub mod Answered
+pub mod Sound
+pub mod TableSteps
 pub mod Entering
 pub mod Among

@@ -1,5 +1,5 @@
 -- How the names and the objects of a name space change with what a name stands for.
-use Rattle.std.proofs.Common.{◌≡◌, ◌≢◌, ◌<◌, ◌+◌, ℕ, Bool, true, false, List, length, get_or, refl, sym, ◌∙◌, ap, Option, None, Some, is_some, IfSome, IfNone, OnSome, cond, ◌||◌, inl, inr, arith, get_or-set_same, get_or-set_other}
+use Rattle.std.proofs.Common.{◌≡◌, ◌≢◌, ◌<◌, ℕ, Bool, true, false, List, length, get_or, refl, sym, ◌∙◌, ap, Option, None, Some, is_some, IfSome, IfNone, OnSome, cond, ◌||◌, inl, inr, get_or-set_same, get_or-set_other}
 use Rattle.std.proofs.lemmas.Bool.{cases_lt}
 use Rattle.std.proofs.lemmas.List.{get_or_past}
 use Rattle.std.specs.Ordering.{nat_cmp, eq_by_cmp}

@@ -1,10 +1,25 @@
 -- The tables that a driver's tables are, beside its journal.
-use Rattle.std.specs.Prelude.{List}
+use Rattle.std.specs.Prelude.{◌≡◌, ◌++◌, List}
 use Rattle.gl_plain.specs.declared.driver_calls.DriverEntry.{DriverEntry}
-use Rattle.gl_plain.specs.State.{DriverTables}
+use Rattle.gl_plain.specs.State.{Surface, DriverTables, DriverState, opening_driver}
+use Rattle.gl_plain.specs.Journal.{state_after}
 use Rattle.strict_driver.specs.declared.tables.Tables.{Tables}
 use Rattle.strict_driver.specs.KeptBuffers.{buffers_of}
 
--- the surface, the buffers, the attributes, and the names given in each name space
-abbrev pub state_of : List DriverEntry → Tables → DriverTables
-state_of journal t = record { surface = t.surface; buffers = buffers_of journal t.buffers; attribs = t.attributes; given = record { buffers = t.buffers.names.given } }
+-- Tables of a driver with the surface, the buffers, the attributes, and the names of buffers that are kept. Of shaders and programs nothing is
+-- kept, since no answer depends on them: they are as they were.
+abbrev pub state_of : DriverTables → List DriverEntry → Tables → DriverTables
+state_of t journal kept = record t {
+  surface = kept.surface;
+  buffers = buffers_of journal kept.buffers;
+  attribs = kept.attributes;
+  given = record t.given { buffers = kept.buffers.names.given };
+}
+
+-- the tables that are kept are those of the driver, whatever comes behind its journal
+abbrev pub Follow : DriverTables → List DriverEntry → Tables → Type 0
+Follow t journal kept = (more : List DriverEntry) → state_of t (journal ++ more) kept ≡ t
+
+-- the state that a journal leaves from the opening state on
+abbrev pub left_by : Surface → List DriverEntry → DriverState
+left_by surface journal = state_after (opening_driver surface) journal

@@ -1,32 +1,57 @@
 //! How far the answers of a driver have gone.
-ghost use Rattle.std.specs.Prelude.{List, ℕ, ◌≡◌, ◌≤◌, ◌+◌, ◌^◌, ◌⊎◌, IfSome, IfNone};
-ghost use Rattle.gl_plain.specs.driver.Answers.{behind_object};
-ghost use Rattle.strict_driver.specs.Given.{answers_from, no_counts};
+ghost use Rattle.std.specs.Prelude.{◌≡◌, IfSome, IfNone};
+ghost use Rattle.gl_plain.specs.declared.driver_calls.Answers.{Answers};
+ghost use Rattle.gl_plain.specs.driver.Answers.{behind_call, behind_object, behind_program};
+ghost use Rattle.strict_driver.specs.Given.{HasLast, answers_from, no_counts};
 
-use gl_plain::ObjectDriver;
+use gl_plain::{DriverCall, ObjectDriver, ProgramDriver};
 
-/// How many names a driver gave in each name space, and how often it was asked for room.
+/// How many names a driver gave in each name space, and how often it was asked each other question.
 #[derive(Clone, Copy, Debug, PartialEq, Eq)]
 pub struct Counts {
     pub buffers: u64,
+    /// The names of shaders and programs.
+    pub programs: u64,
+    /// What compilations said.
+    pub compiles: u64,
+    /// What links said.
+    pub links: u64,
+    /// What validations said.
+    pub validates: u64,
+    /// Whether there was room.
     pub stores: u64,
 }
 
 impl Counts {
-    /// Nothing was given, and it was not asked for room.
+    /// Nothing was given, and nothing was asked.
     pub fn new() -> Counts
         ensures { result ≡ no_counts }
     {
         Counts {
             buffers: 0,
+            programs: 0,
+            compiles: 0,
+            links: 0,
+            validates: 0,
             stores: 0,
         }
     }
 
     /// The counts after a call, or none past the end of their type.
-    pub fn after(self, call: &ObjectDriver) -> Option<Counts>
-        ensures some { IfSome result (λ counts. (oom : List ℕ) → answers_from oom counts ≡ behind_object call.now (answers_from oom self)) }
-        ensures none { IfNone result ((2 ^ 64 ≤ self.buffers + 1) ⊎ (2 ^ 64 ≤ self.stores + 1)) }
+    pub fn after(self, call: &DriverCall) -> Option<Counts>
+        ensures some { IfSome result (λ counts. (loaded : Answers) → answers_from loaded counts ≡ behind_call call.now (answers_from loaded self)) }
+        ensures none { IfNone result (HasLast self) }
+    {
+        match call {
+            DriverCall::Object(call) => self.after_object(call),
+            DriverCall::Program(call) => self.after_program(call),
+        }
+    }
+
+    /// The counts after a call on objects.
+    fn after_object(self, call: &ObjectDriver) -> Option<Counts>
+        ensures some { IfSome result (λ counts. (loaded : Answers) → answers_from loaded counts ≡ behind_object call.now (answers_from loaded self)) }
+        ensures none { IfNone result (HasLast self) }
     {
         match call {
             ObjectDriver::GenBuffer => Some(Counts {
@@ -43,6 +68,39 @@ impl Counts {
             | ObjectDriver::VertexAttrib4 { .. }
             | ObjectDriver::VertexAttribPointer { .. }
             | ObjectDriver::SetArray { .. } => Some(self),
+        }
+    }
+
+    /// The counts after a call on shaders and programs.
+    fn after_program(self, call: &ProgramDriver) -> Option<Counts>
+        ensures some { IfSome result (λ counts. (loaded : Answers) → answers_from loaded counts ≡ behind_program call.now (answers_from loaded self)) }
+        ensures none { IfNone result (HasLast self) }
+    {
+        match call {
+            ProgramDriver::CreateShader { .. } | ProgramDriver::CreateProgram => Some(Counts {
+                programs: self.programs.checked_add(1)?,
+                ..self
+            }),
+            ProgramDriver::CompileShader { .. } => Some(Counts {
+                compiles: self.compiles.checked_add(1)?,
+                ..self
+            }),
+            ProgramDriver::LinkProgram { .. } => Some(Counts {
+                links: self.links.checked_add(1)?,
+                ..self
+            }),
+            ProgramDriver::ValidateProgram { .. } => Some(Counts {
+                validates: self.validates.checked_add(1)?,
+                ..self
+            }),
+            ProgramDriver::DeleteShader { .. }
+            | ProgramDriver::DeleteProgram { .. }
+            | ProgramDriver::ShaderSource { .. }
+            | ProgramDriver::AttachShader { .. }
+            | ProgramDriver::DetachShader { .. }
+            | ProgramDriver::BindAttribLocation { .. }
+            | ProgramDriver::UseProgram { .. }
+            | ProgramDriver::Uniform { .. } => Some(self),
         }
     }
 }

@@ -5,6 +5,7 @@ mod buffers;
 mod counts;
 mod name_space;
 mod ordered;
+mod said;
 mod strict;
 mod tables;
 

@@ -1,13 +1,13 @@
 //! The strict driver.
-ghost use Rattle.std.specs.Prelude.{◌≡◌, ◌≤◌, ◌<◌, ◌+◌, ◌++◌, [], ◌∷◌, length, OnOk, OnErr, IfSome, None, Some, Err, false};
+ghost use Rattle.std.specs.Prelude.{◌≡◌, ◌≤◌, ◌<◌, ◌+◌, ◌++◌, [], ◌∷◌, length, OnOk, OnErr, IfOk, IfSome, IsTrue, None, Some, Err, false};
 ghost use Rattle.std.specs.Prelude.{◌==◌};
 ghost use Rattle.std.specs.List.{list_any};
 ghost use Rattle.std.specs.List.Sorted.{IsNonDecreasing};
 ghost use Rattle.gl_plain.specs.declared.driver_calls.DriverEntry.{DriverEntry};
-ghost use Rattle.gl_plain.specs.declared.driver_calls.DriverCall.TheVariants as calls;
 ghost use Rattle.gl_plain.specs.State.{opening_driver};
-ghost use Rattle.gl_plain.specs.driver.Allowed.{IsObjectAllowed};
-ghost use Rattle.gl_plain.specs.driver.Answers.{AreAnsweredBy, object_answer, stored_answer, told};
+ghost use Rattle.gl_plain.specs.CommonLines.{are_sound_answers};
+ghost use Rattle.gl_plain.specs.driver.Allowed.{IsAllowed};
+ghost use Rattle.gl_plain.specs.driver.Answers.{AreAnsweredBy, answer_to, stored_answer, told};
 ghost use Rattle.gl_plain.specs.Journal.{IsLegal, state_after};
 ghost use Rattle.gl_plain.specs.Oracle.{answers_of, first};
 ghost use Rattle.gl_driver.specs.History.{Served, Caused, Rose, is_oom};
@@ -15,16 +15,20 @@ ghost use Rattle.strict_driver.specs.Given.{is_lost_at};
 ghost use Rattle.strict_driver.specs.StrictHistory.{new_driver, history_of, Continues, answers_left};
 
 use crate::counts::Counts;
+use crate::said::{compile_said, link_said, validation_said};
 use crate::tables::Tables;
 use gl_base::GlEnum;
 use gl_base::limits::DEFAULT_SURFACE;
 use gl_driver::{Driver, DriverStop, Stored};
-use gl_plain::{Answer, Answers, Bytes, DriverCall, DriverEntry, EntryList, ObjectDriver, Words};
-use std::alloc::Global;
+use gl_plain::{
+    Answer, Answers, Bytes, DriverCall, DriverEntry, EntryList, LinkAnswer, ObjectDriver,
+    ProgramDriver, Verdict, Words,
+};
+use std::alloc::{AllocError, Global};
 use std::marker::Model;
 
-/// A driver in memory. It numbers the names of a name space from 1. Until it is loaded with others, its answers say that there is always
-/// room, and it is never lost.
+/// A driver in memory. It numbers the names of a name space from 1. Until it is loaded with others, its answers say that all goes well, that
+/// nothing is active and that there is always room, and it is never lost.
 #[derive(Drop)]
 pub struct StrictDriver {
     alloc: Global,
@@ -70,6 +74,7 @@ impl StrictDriver {
     pub fn load(&mut self, surface: (u32, u32), answers: Answers)
         requires opening { self.old.journal ≡ [] }
         requires going { self.old.stop ≡ None }
+        requires sound { IsTrue (are_sound_answers answers) }
         ensures rest { self.new ≡ record self.old { surface = surface; loaded = self.new.loaded } }
         ensures answers { answers_left self.new ≡ answers_of answers }
         ensures lost { self.new.loaded.lost ≡ answers.lost }
@@ -77,6 +82,9 @@ impl StrictDriver {
         let mut oom = answers.oom.into_vec();
         oom.sort_unstable();
         self.loaded = Answers {
+            compile: answers.compile,
+            link: answers.link,
+            validate: answers.validate,
             oom: Words::from_vec(oom),
             lost: answers.lost,
         };
@@ -144,6 +152,40 @@ impl StrictDriver {
         self.counts.buffers.checked_add(1)
     }
 
+    /// The name that is given next in the name space of shaders and programs, or none past the end of its type.
+    fn next_program(&self) -> Option<u64>
+        ensures { IfSome result (λ name. name ≡ first (answers_left self.now).programs) }
+    {
+        self.counts.programs.checked_add(1)
+    }
+
+    /// A copy of what the next compilation says.
+    fn next_compile(&self) -> Result<Verdict, AllocError>
+        ensures { IfOk result (λ said. said ≡ first (answers_left self.now).compile) }
+    {
+        compile_said(
+            self.alloc,
+            self.loaded.compile.get(self.counts.compiles as usize),
+        )
+    }
+
+    /// A copy of what the next link says.
+    fn next_link(&self) -> Result<LinkAnswer, AllocError>
+        ensures { IfOk result (λ said. said ≡ first (answers_left self.now).link) }
+    {
+        link_said(self.alloc, self.loaded.link.get(self.counts.links as usize))
+    }
+
+    /// A copy of what the next validation says.
+    fn next_validation(&self) -> Result<Verdict, AllocError>
+        ensures { IfOk result (λ said. said ≡ first (answers_left self.now).validate) }
+    {
+        validation_said(
+            self.alloc,
+            self.loaded.validate.get(self.counts.validates as usize),
+        )
+    }
+
     /// Whether the next question for room finds some.
     fn room(&self) -> Stored
         ensures { result ≡ first (answers_left self.now).stored }
@@ -156,12 +198,12 @@ impl StrictDriver {
     }
 
     /// Makes a call with its next answer, and enters it in the journal.
-    fn enter(&mut self, call: ObjectDriver, answer: Answer) -> Result<(), DriverStop>
+    fn enter(&mut self, call: DriverCall, answer: Answer) -> Result<(), DriverStop>
         requires going { self.old.stop ≡ None }
         requires within { IfSome self.old.loaded.lost (λ n. length self.old.journal < n) }
-        requires allowed { IsObjectAllowed (history_of self.old).state.tables call }
-        requires next { answer ≡ object_answer (answers_left self.old) call }
-        ensures served { OnOk result (Served history_of Continues self.old self.new (record { call = calls.Object call; answer = answer } ∷ [])) }
+        requires allowed { IsAllowed (history_of self.old).state call }
+        requires next { answer ≡ answer_to (answers_left self.old) call }
+        ensures served { OnOk result (Served history_of Continues self.old self.new (record { call = call; answer = answer } ∷ [])) }
         ensures stopped { OnErr result (Served history_of Continues self.old self.new []) }
         ensures cause { Caused (history_of self.old) (history_of self.new) result }
         ensures oom { OnOk result (answer ≡ Answer.Oom → Rose self.old.ooms self.new.ooms) }
@@ -174,11 +216,7 @@ impl StrictDriver {
             return Err(DriverStop::NoMemory);
         };
         let ooms = ooms_after(self.ooms, &answer);
-        let entry = DriverEntry {
-            call: DriverCall::Object(call),
-            answer,
-        };
-        let Ok(()) = self.journal.push(entry) else {
+        let Ok(()) = self.journal.push(DriverEntry { call, answer }) else {
             self.stop = Some(DriverStop::NoMemory);
             return Err(DriverStop::NoMemory);
         };
@@ -207,7 +245,11 @@ fn ooms_after(ooms: u64, answer: &Answer) -> u64
 {
     match answer {
         Answer::Oom => ooms.saturating_add(1),
-        Answer::Done | Answer::Name(_) => ooms,
+        Answer::Done
+        | Answer::Name(_)
+        | Answer::Compile { .. }
+        | Answer::Link(_)
+        | Answer::Validate { .. } => ooms,
     }
 }
 
@@ -223,7 +265,10 @@ impl Driver for StrictDriver {
         let Some(name) = self.next_buffer() else {
             return Err(self.stop());
         };
-        match self.enter(ObjectDriver::GenBuffer, Answer::Name(name)) {
+        match self.enter(
+            DriverCall::Object(ObjectDriver::GenBuffer),
+            Answer::Name(name),
+        ) {
             Ok(()) => Ok(name),
             Err(stop) => Err(stop),
         }
@@ -231,7 +276,8 @@ impl Driver for StrictDriver {
 
     fn bind_buffer(&mut self, target: GlEnum, name: u64) -> Result<(), DriverStop> {
         self.ready()?;
-        self.enter(ObjectDriver::BindBuffer { target, name }, Answer::Done)
+        let call = ObjectDriver::BindBuffer { target, name };
+        self.enter(DriverCall::Object(call), Answer::Done)
     }
 
     fn buffer_data(
@@ -250,7 +296,7 @@ impl Driver for StrictDriver {
             bytes,
             usage,
         };
-        match self.enter(call, stored_answer(room)) {
+        match self.enter(DriverCall::Object(call), stored_answer(room)) {
             Ok(()) => Ok(room),
             Err(stop) => Err(stop),
         }
@@ -271,17 +317,19 @@ impl Driver for StrictDriver {
             offset,
             bytes,
         };
-        self.enter(call, Answer::Done)
+        self.enter(DriverCall::Object(call), Answer::Done)
     }
 
     fn delete_buffer(&mut self, name: u64) -> Result<(), DriverStop> {
         self.ready()?;
-        self.enter(ObjectDriver::DeleteBuffer { name }, Answer::Done)
+        let call = ObjectDriver::DeleteBuffer { name };
+        self.enter(DriverCall::Object(call), Answer::Done)
     }
 
     fn vertex_attrib_4(&mut self, index: u32, values: [u32; 4]) -> Result<(), DriverStop> {
         self.ready()?;
-        self.enter(ObjectDriver::VertexAttrib4 { index, values }, Answer::Done)
+        let call = ObjectDriver::VertexAttrib4 { index, values };
+        self.enter(DriverCall::Object(call), Answer::Done)
     }
 
     fn vertex_attrib_pointer(
@@ -302,12 +350,159 @@ impl Driver for StrictDriver {
             stride,
             offset,
         };
-        self.enter(call, Answer::Done)
+        self.enter(DriverCall::Object(call), Answer::Done)
     }
 
     fn set_array(&mut self, index: u32, on: bool) -> Result<(), DriverStop> {
         self.ready()?;
-        self.enter(ObjectDriver::SetArray { index, on }, Answer::Done)
+        let call = ObjectDriver::SetArray { index, on };
+        self.enter(DriverCall::Object(call), Answer::Done)
+    }
+
+    fn create_shader(&mut self, kind: GlEnum) -> Result<u64, DriverStop> {
+        self.ready()?;
+        let Some(name) = self.next_program() else {
+            return Err(self.stop());
+        };
+        let call = ProgramDriver::CreateShader { kind };
+        match self.enter(DriverCall::Program(call), Answer::Name(name)) {
+            Ok(()) => Ok(name),
+            Err(stop) => Err(stop),
+        }
+    }
+
+    fn create_program(&mut self) -> Result<u64, DriverStop> {
+        self.ready()?;
+        let Some(name) = self.next_program() else {
+            return Err(self.stop());
+        };
+        let call = ProgramDriver::CreateProgram;
+        match self.enter(DriverCall::Program(call), Answer::Name(name)) {
+            Ok(()) => Ok(name),
+            Err(stop) => Err(stop),
+        }
+    }
+
+    fn delete_shader(&mut self, name: u64) -> Result<(), DriverStop> {
+        self.ready()?;
+        let call = ProgramDriver::DeleteShader { name };
+        self.enter(DriverCall::Program(call), Answer::Done)
+    }
+
+    fn delete_program(&mut self, name: u64) -> Result<(), DriverStop> {
+        self.ready()?;
+        let call = ProgramDriver::DeleteProgram { name };
+        self.enter(DriverCall::Program(call), Answer::Done)
+    }
+
+    fn shader_source(&mut self, name: u64, bytes: &[u8]) -> Result<(), DriverStop> {
+        self.ready()?;
+        let Ok(bytes) = Bytes::from_slice(self.alloc, bytes) else {
+            return Err(self.stop());
+        };
+        let call = ProgramDriver::ShaderSource { name, bytes };
+        self.enter(DriverCall::Program(call), Answer::Done)
+    }
+
+    fn compile_shader(&mut self, name: u64) -> Result<(bool, Bytes), DriverStop> {
+        self.ready()?;
+        let Ok(Verdict { ok, log }) = self.next_compile() else {
+            return Err(self.stop());
+        };
+        let Ok(said) = self.next_compile() else {
+            return Err(self.stop());
+        };
+        let call = ProgramDriver::CompileShader { name };
+        match self.enter(DriverCall::Program(call), Answer::Compile { ok, log }) {
+            Ok(()) => Ok((said.ok, said.log)),
+            Err(stop) => Err(stop),
+        }
+    }
+
+    fn attach_shader(&mut self, program: u64, shader: u64) -> Result<(), DriverStop> {
+        self.ready()?;
+        let call = ProgramDriver::AttachShader { program, shader };
+        self.enter(DriverCall::Program(call), Answer::Done)
+    }
+
+    fn detach_shader(&mut self, program: u64, shader: u64) -> Result<(), DriverStop> {
+        self.ready()?;
+        let call = ProgramDriver::DetachShader { program, shader };
+        self.enter(DriverCall::Program(call), Answer::Done)
+    }
+
+    fn bind_attrib_location(
+        &mut self,
+        program: u64,
+        index: u32,
+        name: &[u8],
+    ) -> Result<(), DriverStop> {
+        self.ready()?;
+        let Ok(name) = Bytes::from_slice(self.alloc, name) else {
+            return Err(self.stop());
+        };
+        let call = ProgramDriver::BindAttribLocation {
+            program,
+            index,
+            name,
+        };
+        self.enter(DriverCall::Program(call), Answer::Done)
+    }
+
+    fn link_program(&mut self, name: u64) -> Result<LinkAnswer, DriverStop> {
+        self.ready()?;
+        let Ok(answer) = self.next_link() else {
+            return Err(self.stop());
+        };
+        let Ok(said) = self.next_link() else {
+            return Err(self.stop());
+        };
+        let call = ProgramDriver::LinkProgram { name };
+        match self.enter(DriverCall::Program(call), Answer::Link(answer)) {
+            Ok(()) => Ok(said),
+            Err(stop) => Err(stop),
+        }
+    }
+
+    fn validate_program(&mut self, name: u64) -> Result<(bool, Bytes), DriverStop> {
+        self.ready()?;
+        let Ok(Verdict { ok, log }) = self.next_validation() else {
+            return Err(self.stop());
+        };
+        let Ok(said) = self.next_validation() else {
+            return Err(self.stop());
+        };
+        let call = ProgramDriver::ValidateProgram { name };
+        match self.enter(DriverCall::Program(call), Answer::Validate { ok, log }) {
+            Ok(()) => Ok((said.ok, said.log)),
+            Err(stop) => Err(stop),
+        }
+    }
+
+    fn use_program(&mut self, name: u64) -> Result<(), DriverStop> {
+        self.ready()?;
+        let call = ProgramDriver::UseProgram { name };
+        self.enter(DriverCall::Program(call), Answer::Done)
+    }
+
+    fn uniform(
+        &mut self,
+        location: i32,
+        kind: u32,
+        count: i32,
+        bytes: &[u8],
+    ) -> Result<(), DriverStop> {
+        self.ready()?;
+        let Ok(bytes) = Bytes::from_slice(self.alloc, bytes) else {
+            return Err(self.stop());
+        };
+        let call = ProgramDriver::Uniform {
+            location,
+            kind,
+            count,
+            bytes,
+        };
+        self.enter(DriverCall::Program(call), Answer::Done)
     }
 
     ghost grown_itself = { continues_itself };

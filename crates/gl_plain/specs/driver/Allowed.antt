@@ -1,13 +1,19 @@
 -- The condition of every driver call.
-use Rattle.std.specs.Prelude.{◌≡◌, ◌≤◌, ℕ, None}
-use Rattle.gl_base.specs.declared.limits.TheConstants.{LAST_ATTRIBUTE}
+use Rattle.std.specs.Prelude.{◌≡◌, ◌≤◌, ◌⊎◌, ℕ, true, false, length, Option, None, Some, IsSome, IsTrue}
+use Rattle.std.specs.FinMap as map
+use Rattle.gl_base.specs.declared.limits.TheConstants.{LAST_ATTRIBUTE, NAME_LENGTH_LIMIT}
 use Rattle.gl_plain.specs.declared.driver_calls.ObjectDriver.{ObjectDriver}
 use Rattle.gl_plain.specs.declared.driver_calls.ObjectDriver.TheVariants.{GenBuffer, BindBuffer, BufferData, BufferSubData, DeleteBuffer, VertexAttrib4, VertexAttribPointer, SetArray}
 use Rattle.gl_plain.specs.declared.driver_calls.DriverCall.{DriverCall}
-use Rattle.gl_plain.specs.declared.driver_calls.DriverCall.TheVariants.{Object}
+use Rattle.gl_plain.specs.declared.driver_calls.DriverCall.TheVariants.{Object, Program}
+use Rattle.gl_plain.specs.declared.driver_calls.ProgramDriver.{ProgramDriver}
+use Rattle.gl_plain.specs.declared.driver_calls.ProgramDriver.TheVariants.{CreateShader, CreateProgram, DeleteShader, DeleteProgram, ShaderSource, CompileShader, AttachShader, DetachShader, BindAttribLocation, LinkProgram, ValidateProgram, UseProgram, Uniform}
+use Rattle.gl_plain.specs.declared.programs.Program as programs
 use Rattle.gl_plain.specs.subjects.Names.{IsLive}
 use Rattle.gl_plain.specs.subjects.Buffers.{IsBindBufferAllowed, IsBufferDataAllowed, IsBufferSubDataAllowed}
 use Rattle.gl_plain.specs.subjects.Attributes.{vertex_attrib_pointer_refusal}
+use Rattle.gl_plain.specs.subjects.Programs.{ProgramTables, is_shader_kind, attach_refusal_by, detach_refusal_by, is_built_in, can_link, is_linked}
+use Rattle.gl_plain.specs.subjects.Uniforms.{IsUniformAllowed}
 use Rattle.gl_plain.specs.State.{DriverTables, DriverState}
 
 -- a call on objects may be made with these tables: names are live, data and attributes are those that OpenGL ES takes (sections 2.7 to 2.9)
@@ -21,6 +27,29 @@ IsObjectAllowed t (VertexAttrib4 index values) = index ≤ LAST_ATTRIBUTE
 IsObjectAllowed t (VertexAttribPointer index size kind normalized stride offset) = vertex_attrib_pointer_refusal index size kind stride ≡ None
 IsObjectAllowed t (SetArray index on) = index ≤ LAST_ATTRIBUTE
 
+-- a live program with a compiled vertex and a compiled fragment shader attached
+abbrev pub CanLink : ProgramTables → Option programs.Program → Type 0
+CanLink t None = ⊥
+CanLink t (Some p) = can_link t.shaders p.attached ≡ true
+
+-- a call on shaders and programs may be made with these tables: names are live, programs are linked, values suit their uniforms (section 2.10)
+abbrev pub IsProgramAllowed : ProgramTables → ProgramDriver → Type 0
+IsProgramAllowed t (CreateShader kind) = IsTrue (is_shader_kind kind)
+IsProgramAllowed t CreateProgram = Unit {0}
+IsProgramAllowed t (DeleteShader name) = IsSome (map.get t.shaders name)
+IsProgramAllowed t (DeleteProgram name) = IsSome (map.get t.programs name)
+IsProgramAllowed t (ShaderSource name bytes) = IsSome (map.get t.shaders name)
+IsProgramAllowed t (CompileShader name) = IsSome (map.get t.shaders name)
+IsProgramAllowed t (AttachShader program shader) = attach_refusal_by t.shaders (map.get t.programs program) (map.get t.shaders shader) ≡ None
+IsProgramAllowed t (DetachShader program shader) = detach_refusal_by (map.get t.programs program) (map.get t.shaders shader) shader ≡ None
+IsProgramAllowed t (BindAttribLocation program index name) =
+    IsSome (map.get t.programs program) × (index ≤ LAST_ATTRIBUTE) × (length name ≤ NAME_LENGTH_LIMIT) × (is_built_in name ≡ false)
+IsProgramAllowed t (LinkProgram name) = CanLink t (map.get t.programs name)
+IsProgramAllowed t (ValidateProgram name) = is_linked (map.get t.programs name) ≡ true
+IsProgramAllowed t (UseProgram name) = (name ≡ 0) ⊎ (is_linked (map.get t.programs name) ≡ true)
+IsProgramAllowed t (Uniform location kind count bytes) = IsUniformAllowed t.installed location kind count bytes
+
 -- the call may be made in this state
 abbrev pub IsAllowed : DriverState → DriverCall → Type 0
 IsAllowed d (Object call) = IsObjectAllowed d.tables call
+IsAllowed d (Program call) = IsProgramAllowed d.tables.programs call

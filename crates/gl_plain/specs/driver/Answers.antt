@@ -1,17 +1,20 @@
 -- The answers of driver calls: the form of each, what it tells, and what an oracle answers.
-use Rattle.std.specs.Prelude.{◌≡◌, ℕ, List, [], ◌∷◌}
+use Rattle.std.specs.Prelude.{◌≡◌, ℕ, List, [], ◌∷◌, IsTrue}
 use Rattle.std.specs.Ordering.{nat_cmp}
 use Rattle.std.specs.FinSet as set
 use Rattle.gl_plain.specs.declared.driver_calls.Answer.{Answer}
-use Rattle.gl_plain.specs.declared.driver_calls.Answer.TheVariants.{Done, Name, Oom}
+use Rattle.gl_plain.specs.declared.driver_calls.Answer.TheVariants.{Done, Name, Oom, Compile, Link, Validate}
 use Rattle.gl_plain.specs.declared.driver_calls.Stored.{Stored}
 use Rattle.gl_plain.specs.declared.driver_calls.Stored.TheVariants as room
 use Rattle.gl_plain.specs.declared.driver_calls.ObjectDriver.{ObjectDriver}
 use Rattle.gl_plain.specs.declared.driver_calls.ObjectDriver.TheVariants.{GenBuffer, BindBuffer, BufferData, BufferSubData, DeleteBuffer, VertexAttrib4, VertexAttribPointer, SetArray}
 use Rattle.gl_plain.specs.declared.driver_calls.DriverCall.{DriverCall}
-use Rattle.gl_plain.specs.declared.driver_calls.DriverCall.TheVariants.{Object}
+use Rattle.gl_plain.specs.declared.driver_calls.DriverCall.TheVariants.{Object, Program}
+use Rattle.gl_plain.specs.declared.driver_calls.ProgramDriver.{ProgramDriver}
+use Rattle.gl_plain.specs.declared.driver_calls.ProgramDriver.TheVariants.{CreateShader, CreateProgram, DeleteShader, DeleteProgram, ShaderSource, CompileShader, AttachShader, DetachShader, BindAttribLocation, LinkProgram, ValidateProgram, UseProgram, Uniform}
 use Rattle.gl_plain.specs.declared.driver_calls.DriverEntry.{DriverEntry}
 use Rattle.gl_plain.specs.subjects.Names.{IsFresh}
+use Rattle.gl_plain.specs.subjects.Links.{is_log, is_sound_link}
 use Rattle.gl_plain.specs.State.{DriverState}
 use Rattle.gl_plain.specs.Oracle.{Oracle, first, behind, led_by}
 use Rattle.gl_plain.specs.Spaces.{Space, Buffers, numbers_in, with_numbers, given_in}
@@ -21,18 +24,54 @@ abbrev pub IsNewName : set.FinSet nat_cmp → Answer → Type 0
 IsNewName given (Name name) = IsFresh given name
 IsNewName given Done = ⊥
 IsNewName given Oom = ⊥
+IsNewName given (Compile ok log) = ⊥
+IsNewName given (Link a) = ⊥
+IsNewName given (Validate ok log) = ⊥
 
 -- the answer says that it was done
 abbrev pub IsDone : Answer → Type 0
 IsDone Done = Unit {0}
 IsDone (Name name) = ⊥
 IsDone Oom = ⊥
+IsDone (Compile ok log) = ⊥
+IsDone (Link a) = ⊥
+IsDone (Validate ok log) = ⊥
 
 -- the answer says whether there was room
 abbrev pub IsStored : Answer → Type 0
 IsStored Done = Unit {0}
 IsStored Oom = Unit {0}
 IsStored (Name name) = ⊥
+IsStored (Compile ok log) = ⊥
+IsStored (Link a) = ⊥
+IsStored (Validate ok log) = ⊥
+
+-- the answer is what a compiler may say
+abbrev pub IsCompiled : Answer → Type 0
+IsCompiled (Compile ok log) = IsTrue (is_log log)
+IsCompiled Done = ⊥
+IsCompiled (Name name) = ⊥
+IsCompiled Oom = ⊥
+IsCompiled (Link a) = ⊥
+IsCompiled (Validate ok log) = ⊥
+
+-- the answer is what a linker may say
+abbrev pub IsLinked : Answer → Type 0
+IsLinked (Link a) = IsTrue (is_sound_link a)
+IsLinked Done = ⊥
+IsLinked (Name name) = ⊥
+IsLinked Oom = ⊥
+IsLinked (Compile ok log) = ⊥
+IsLinked (Validate ok log) = ⊥
+
+-- the answer is what a validation may say
+abbrev pub IsValidated : Answer → Type 0
+IsValidated (Validate ok log) = IsTrue (is_log log)
+IsValidated Done = ⊥
+IsValidated (Name name) = ⊥
+IsValidated Oom = ⊥
+IsValidated (Compile ok log) = ⊥
+IsValidated (Link a) = ⊥
 
 -- the form of the answer to a call on objects
 abbrev pub IsObjectAnswer : DriverState → ObjectDriver → Answer → Type 0
@@ -45,21 +84,80 @@ IsObjectAnswer d (VertexAttrib4 index values) answer = IsDone answer
 IsObjectAnswer d (VertexAttribPointer index size kind normalized stride offset) answer = IsDone answer
 IsObjectAnswer d (SetArray index on) answer = IsDone answer
 
+-- the form of the answer to a call on shaders and programs
+abbrev pub IsProgramAnswer : DriverState → ProgramDriver → Answer → Type 0
+IsProgramAnswer d (CreateShader kind) answer = IsNewName d.tables.given.programs answer
+IsProgramAnswer d CreateProgram answer = IsNewName d.tables.given.programs answer
+IsProgramAnswer d (DeleteShader name) answer = IsDone answer
+IsProgramAnswer d (DeleteProgram name) answer = IsDone answer
+IsProgramAnswer d (ShaderSource name bytes) answer = IsDone answer
+IsProgramAnswer d (CompileShader name) answer = IsCompiled answer
+IsProgramAnswer d (AttachShader program shader) answer = IsDone answer
+IsProgramAnswer d (DetachShader program shader) answer = IsDone answer
+IsProgramAnswer d (BindAttribLocation program index name) answer = IsDone answer
+IsProgramAnswer d (LinkProgram name) answer = IsLinked answer
+IsProgramAnswer d (ValidateProgram name) answer = IsValidated answer
+IsProgramAnswer d (UseProgram name) answer = IsDone answer
+IsProgramAnswer d (Uniform location kind count bytes) answer = IsDone answer
+
 -- the answer is of the call's form
 abbrev pub IsAnswer : DriverState → DriverCall → Answer → Type 0
 IsAnswer d (Object call) answer = IsObjectAnswer d call answer
+IsAnswer d (Program call) answer = IsProgramAnswer d call answer
 
 -- a new name is the next number of its space
 abbrev pub told_number : Space → Answer → Oracle → Oracle
 told_number space (Name n) o = with_numbers space (led_by n (numbers_in space o)) o
 told_number space Done o = o
 told_number space Oom o = o
+told_number space (Compile ok log) o = o
+told_number space (Link a) o = o
+told_number space (Validate ok log) o = o
 
 -- whether there was room is the next answer of that kind
 abbrev pub told_stored : Answer → Oracle → Oracle
 told_stored Done o = record o { stored = led_by room.Done o.stored }
 told_stored Oom o = record o { stored = led_by room.Oom o.stored }
 told_stored (Name n) o = o
+told_stored (Compile ok log) o = o
+told_stored (Link a) o = o
+told_stored (Validate ok log) o = o
+
+-- the name of a new shader or program is the next of their numbers
+abbrev pub told_program : Answer → Oracle → Oracle
+told_program (Name n) o = record o { programs = led_by n o.programs }
+told_program Done o = o
+told_program Oom o = o
+told_program (Compile ok log) o = o
+told_program (Link a) o = o
+told_program (Validate ok log) o = o
+
+-- what a compilation says is the next of that kind
+abbrev pub told_compile : Answer → Oracle → Oracle
+told_compile (Compile ok log) o = record o { compile = led_by (record { ok = ok; log = log }) o.compile }
+told_compile Done o = o
+told_compile (Name n) o = o
+told_compile Oom o = o
+told_compile (Link a) o = o
+told_compile (Validate ok log) o = o
+
+-- what a link says is the next of that kind
+abbrev pub told_link : Answer → Oracle → Oracle
+told_link (Link a) o = record o { link = led_by a o.link }
+told_link Done o = o
+told_link (Name n) o = o
+told_link Oom o = o
+told_link (Compile ok log) o = o
+told_link (Validate ok log) o = o
+
+-- what a validation says is the next of that kind
+abbrev pub told_validate : Answer → Oracle → Oracle
+told_validate (Validate ok log) o = record o { validate = led_by (record { ok = ok; log = log }) o.validate }
+told_validate Done o = o
+told_validate (Name n) o = o
+told_validate Oom o = o
+told_validate (Compile ok log) o = o
+told_validate (Link a) o = o
 
 -- what the answer to a call on objects tells, before the other answers
 abbrev pub told_object : ObjectDriver → Answer → Oracle → Oracle
@@ -72,9 +170,26 @@ told_object (VertexAttrib4 index values) answer o = o
 told_object (VertexAttribPointer index size kind normalized stride offset) answer o = o
 told_object (SetArray index on) answer o = o
 
+-- what the answer to a call on shaders and programs tells, before the other answers
+abbrev pub told_of_program : ProgramDriver → Answer → Oracle → Oracle
+told_of_program (CreateShader kind) answer o = told_program answer o
+told_of_program CreateProgram answer o = told_program answer o
+told_of_program (DeleteShader name) answer o = o
+told_of_program (DeleteProgram name) answer o = o
+told_of_program (ShaderSource name bytes) answer o = o
+told_of_program (CompileShader name) answer o = told_compile answer o
+told_of_program (AttachShader program shader) answer o = o
+told_of_program (DetachShader program shader) answer o = o
+told_of_program (BindAttribLocation program index name) answer o = o
+told_of_program (LinkProgram name) answer o = told_link answer o
+told_of_program (ValidateProgram name) answer o = told_validate answer o
+told_of_program (UseProgram name) answer o = o
+told_of_program (Uniform location kind count bytes) answer o = o
+
 -- what the answer to a call tells
 abbrev pub told_call : DriverCall → Answer → Oracle → Oracle
 told_call (Object call) answer o = told_object call answer o
+told_call (Program call) answer o = told_of_program call answer o
 
 -- what the entries of a journal answered, and then the answers of o
 abbrev pub told : List DriverEntry → Oracle → Oracle
@@ -97,9 +212,26 @@ object_answer o (VertexAttrib4 index values) = Done
 object_answer o (VertexAttribPointer index size kind normalized stride offset) = Done
 object_answer o (SetArray index on) = Done
 
+-- what an oracle answers to a call on shaders and programs
+abbrev pub program_answer : Oracle → ProgramDriver → Answer
+program_answer o (CreateShader kind) = Name (first o.programs)
+program_answer o CreateProgram = Name (first o.programs)
+program_answer o (DeleteShader name) = Done
+program_answer o (DeleteProgram name) = Done
+program_answer o (ShaderSource name bytes) = Done
+program_answer o (CompileShader name) = Compile (first o.compile).ok (first o.compile).log
+program_answer o (AttachShader program shader) = Done
+program_answer o (DetachShader program shader) = Done
+program_answer o (BindAttribLocation program index name) = Done
+program_answer o (LinkProgram name) = Link (first o.link)
+program_answer o (ValidateProgram name) = Validate (first o.validate).ok (first o.validate).log
+program_answer o (UseProgram name) = Done
+program_answer o (Uniform location kind count bytes) = Done
+
 -- what an oracle answers to a call
 abbrev pub answer_to : Oracle → DriverCall → Answer
 answer_to o (Object call) = object_answer o call
+answer_to o (Program call) = program_answer o call
 
 -- the answers that are left behind a call on objects
 abbrev pub behind_object : ObjectDriver → Oracle → Oracle
@@ -112,9 +244,26 @@ behind_object (VertexAttrib4 index values) o = o
 behind_object (VertexAttribPointer index size kind normalized stride offset) o = o
 behind_object (SetArray index on) o = o
 
+-- the answers that are left behind a call on shaders and programs
+abbrev pub behind_program : ProgramDriver → Oracle → Oracle
+behind_program (CreateShader kind) o = record o { programs = behind o.programs }
+behind_program CreateProgram o = record o { programs = behind o.programs }
+behind_program (DeleteShader name) o = o
+behind_program (DeleteProgram name) o = o
+behind_program (ShaderSource name bytes) o = o
+behind_program (CompileShader name) o = record o { compile = behind o.compile }
+behind_program (AttachShader program shader) o = o
+behind_program (DetachShader program shader) o = o
+behind_program (BindAttribLocation program index name) o = o
+behind_program (LinkProgram name) o = record o { link = behind o.link }
+behind_program (ValidateProgram name) o = record o { validate = behind o.validate }
+behind_program (UseProgram name) o = o
+behind_program (Uniform location kind count bytes) o = o
+
 -- the answers that are left behind a call
 abbrev pub behind_call : DriverCall → Oracle → Oracle
 behind_call (Object call) o = behind_object call o
+behind_call (Program call) o = behind_program call o
 
 -- each entry has the answer that the oracle gives to its call, in order
 abbrev pub AreAnsweredBy : Oracle → List DriverEntry → Type 0

@@ -1,15 +1,20 @@
 -- What a driver call leaves: the effect of its call of OpenGL ES, on driver names.
 use Rattle.std.specs.Prelude.{ℕ, List}
+use Rattle.std.specs.FinSet as set
 use Rattle.gl_base.specs.declared.gl_enum.GlEnum.{GlEnum}
 use Rattle.gl_plain.specs.declared.driver_calls.Answer.{Answer}
-use Rattle.gl_plain.specs.declared.driver_calls.Answer.TheVariants.{Done, Name, Oom}
+use Rattle.gl_plain.specs.declared.driver_calls.Answer.TheVariants.{Done, Name, Oom, Compile, Link, Validate}
 use Rattle.gl_plain.specs.declared.driver_calls.ObjectDriver.{ObjectDriver}
 use Rattle.gl_plain.specs.declared.driver_calls.ObjectDriver.TheVariants.{GenBuffer, BindBuffer, BufferData, BufferSubData, DeleteBuffer, VertexAttrib4, VertexAttribPointer, SetArray}
 use Rattle.gl_plain.specs.declared.driver_calls.DriverCall.{DriverCall}
-use Rattle.gl_plain.specs.declared.driver_calls.DriverCall.TheVariants.{Object}
+use Rattle.gl_plain.specs.declared.driver_calls.DriverCall.TheVariants.{Object, Program}
+use Rattle.gl_plain.specs.declared.driver_calls.ProgramDriver.{ProgramDriver}
+use Rattle.gl_plain.specs.declared.driver_calls.ProgramDriver.TheVariants.{CreateShader, CreateProgram, DeleteShader, DeleteProgram, ShaderSource, CompileShader, AttachShader, DetachShader, BindAttribLocation, LinkProgram, ValidateProgram, UseProgram, Uniform}
 use Rattle.gl_plain.specs.Words.{natural}
 use Rattle.gl_plain.specs.subjects.Buffers.{bind_buffer_effect, buffer_data_effect, buffer_sub_data_effect, delete_buffers_effect}
 use Rattle.gl_plain.specs.subjects.Attributes.{vertex_attrib_4f_effect, vertex_attrib_pointer_effect, array_of, set_array_effect, all_outside}
+use Rattle.gl_plain.specs.subjects.Programs.{ProgramTables, create_shader_effect, create_program_effect, shader_source_effect, compile_shader_effect, delete_shader_effect, delete_program_effect, attach_shader_effect, detach_shader_effect, bind_attrib_location_effect, link_program_effect, validate_program_effect, use_program_effect}
+use Rattle.gl_plain.specs.subjects.Uniforms.{uniform_effect}
 use Rattle.gl_plain.specs.subjects.Images.{Contents}
 use Rattle.gl_plain.specs.State.{DriverTables, DriverState}
 use Rattle.gl_plain.specs.Spaces.{Space, Buffers, with_given}
@@ -19,12 +24,18 @@ abbrev pub after_gen : Space → DriverTables → Answer → DriverTables
 after_gen space t (Name n) = with_given space n t
 after_gen space t Done = t
 after_gen space t Oom = t
+after_gen space t (Compile ok log) = t
+after_gen space t (Link a) = t
+after_gen space t (Validate ok log) = t
 
 -- where there was no room, nothing is stored
 abbrev pub after_buffer_data : DriverTables → GlEnum → List ℕ → GlEnum → Answer → DriverTables
 after_buffer_data t target bytes usage Done = record t { buffers = buffer_data_effect t.buffers target bytes usage }
 after_buffer_data t target bytes usage Oom = t
 after_buffer_data t target bytes usage (Name n) = t
+after_buffer_data t target bytes usage (Compile ok log) = t
+after_buffer_data t target bytes usage (Link a) = t
+after_buffer_data t target bytes usage (Validate ok log) = t
 
 -- the tables that a call on objects leaves
 abbrev pub after_object : DriverTables → ObjectDriver → Answer → DriverTables
@@ -38,13 +49,71 @@ after_object t (VertexAttribPointer index size kind normalized stride offset) an
     record t { attribs = vertex_attrib_pointer_effect t.attribs index (array_of t.buffers size kind normalized stride offset) }
 after_object t (SetArray index on) answer = record t { attribs = set_array_effect t.attribs index on }
 
+-- a new shader or program is there, and its name counts as given
+abbrev pub after_create : (ℕ → ProgramTables) → DriverTables → Answer → DriverTables
+after_create create t (Name n) = record t { programs = create n; given = record t.given { programs = set.insert t.given.programs n } }
+after_create create t Done = t
+after_create create t Oom = t
+after_create create t (Compile ok log) = t
+after_create create t (Link a) = t
+after_create create t (Validate ok log) = t
+
+-- the tables with other programs
+abbrev pub programs_in : DriverTables → ProgramTables → DriverTables
+programs_in t programs = record t { programs = programs }
+
+-- a shader is compiled
+abbrev pub after_compile : DriverTables → ℕ → Answer → DriverTables
+after_compile t name (Compile ok log) = programs_in t (compile_shader_effect t.programs name (record { ok = ok; log = log }))
+after_compile t name Done = t
+after_compile t name (Name n) = t
+after_compile t name Oom = t
+after_compile t name (Link a) = t
+after_compile t name (Validate ok log) = t
+
+-- a program is linked
+abbrev pub after_link : DriverTables → ℕ → Answer → DriverTables
+after_link t name (Link a) = programs_in t (link_program_effect t.programs name a)
+after_link t name Done = t
+after_link t name (Name n) = t
+after_link t name Oom = t
+after_link t name (Compile ok log) = t
+after_link t name (Validate ok log) = t
+
+-- a program is validated
+abbrev pub after_validate : DriverTables → ℕ → Answer → DriverTables
+after_validate t name (Validate ok log) = programs_in t (validate_program_effect t.programs name (record { ok = ok; log = log }))
+after_validate t name Done = t
+after_validate t name (Name n) = t
+after_validate t name Oom = t
+after_validate t name (Compile ok log) = t
+after_validate t name (Link a) = t
+
+-- the tables that a call on shaders and programs leaves
+abbrev pub after_program : DriverTables → ProgramDriver → Answer → DriverTables
+after_program t (CreateShader kind) answer = after_create (λ n. create_shader_effect t.programs n n kind) t answer
+after_program t CreateProgram answer = after_create (λ n. create_program_effect t.programs n n) t answer
+after_program t (DeleteShader name) answer = programs_in t (delete_shader_effect t.programs name)
+after_program t (DeleteProgram name) answer = programs_in t (delete_program_effect t.programs name)
+after_program t (ShaderSource name bytes) answer = programs_in t (shader_source_effect t.programs name bytes)
+after_program t (CompileShader name) answer = after_compile t name answer
+after_program t (AttachShader program shader) answer = programs_in t (attach_shader_effect t.programs program shader)
+after_program t (DetachShader program shader) answer = programs_in t (detach_shader_effect t.programs program shader)
+after_program t (BindAttribLocation program index name) answer = programs_in t (bind_attrib_location_effect t.programs program index name)
+after_program t (LinkProgram name) answer = after_link t name answer
+after_program t (ValidateProgram name) answer = after_validate t name answer
+after_program t (UseProgram name) answer = programs_in t (use_program_effect t.programs name)
+after_program t (Uniform location kind count bytes) answer = programs_in t (uniform_effect t.programs location kind count bytes)
+
 -- the tables after a call and its answer; no contents of images change them
 abbrev pub tables_after : DriverTables → DriverCall → Answer → DriverTables
 tables_after t (Object call) answer = after_object t call answer
+tables_after t (Program call) answer = after_program t call answer
 
--- the contents after a call and its answer; a call on objects leaves them as they are
+-- the contents after a call and its answer; a call on objects, shaders and programs leaves them as they are
 abbrev pub contents_after_call : DriverState → DriverCall → Answer → Contents
 contents_after_call d (Object call) answer = d.contents
+contents_after_call d (Program call) answer = d.contents
 
 -- the state after a call and its answer
 abbrev pub driver_after : DriverState → DriverCall → Answer → DriverState

@@ -1,15 +1,19 @@
 -- The driver calls of the commands on objects, where they are not refused, with driver names.
-use Rattle.std.specs.Prelude.{ℕ, true, false, ◌==◌, if◌then◌else◌, List, [], ◌∷◌, Option, None, Some}
+use Rattle.std.specs.Prelude.{ℕ, true, false, ◌==◌, if◌then◌else◌, List, [], ◌∷◌, Option, None, Some, is_some}
 use Rattle.std.specs.FinMap as map
 use Rattle.gl_base.specs.declared.gl_enum.GlEnum.{GlEnum}
 use Rattle.gl_plain.specs.declared.objects.Name.{Name}
 use Rattle.gl_plain.specs.declared.commands.ObjectCommand.{ObjectCommand}
-use Rattle.gl_plain.specs.declared.commands.ObjectCommand.TheVariants.{GenBuffers, BindBuffer, BufferData, BufferSubData, DeleteBuffers, VertexAttrib4f, VertexAttribPointer, EnableVertexAttribArray, DisableVertexAttribArray}
+use Rattle.gl_plain.specs.declared.commands.ObjectCommand.TheVariants.{GenBuffers, BindBuffer, BufferData, BufferSubData, DeleteBuffers, VertexAttrib4f, VertexAttribPointer, EnableVertexAttribArray, DisableVertexAttribArray, CreateShader, ShaderSource, CompileShader, DeleteShader, CreateProgram, AttachShader, DetachShader, BindAttribLocation, LinkProgram, ValidateProgram, UseProgram, DeleteProgram, Uniform}
 use Rattle.gl_plain.specs.declared.driver_calls.DriverCall.{DriverCall}
-use Rattle.gl_plain.specs.declared.driver_calls.DriverCall.TheVariants.{Object}
+use Rattle.gl_plain.specs.declared.driver_calls.DriverCall.TheVariants.{Object, Program}
 use Rattle.gl_plain.specs.declared.driver_calls.ObjectDriver.TheVariants as calls
+use Rattle.gl_plain.specs.declared.driver_calls.ProgramDriver.TheVariants as program_calls
+use Rattle.gl_plain.specs.declared.programs.Program as programs
 use Rattle.gl_plain.specs.subjects.Data.{payload_of, bytes_of}
 use Rattle.gl_plain.specs.subjects.Buffers.{delete_buffers_calls}
+use Rattle.gl_plain.specs.subjects.Programs.{ProgramTables, number_of, program_at, can_link}
+use Rattle.gl_plain.specs.subjects.Uniforms.{uniform_calls}
 use Rattle.gl_plain.specs.Oracle.{Oracle, first}
 use Rattle.gl_plain.specs.State.{EsState}
 use Rattle.gl_plain.specs.Spaces.{Space, Buffers, numbers_in, gen_call}
@@ -24,6 +28,20 @@ bind_calls space bind id o None =
 abbrev pub bind_buffer_call : GlEnum → ℕ → DriverCall
 bind_buffer_call target name = Object (calls.BindBuffer target name)
 
+-- a deletion of 0 makes none
+abbrev pub delete_object_calls : (ℕ → DriverCall) → ProgramTables → ℕ → List DriverCall
+delete_object_calls delete t id = if id == 0 then [] else delete (number_of t id) ∷ []
+
+-- a link without the two shaders makes none
+abbrev pub link_program_calls : ProgramTables → ℕ → Option programs.Program → List DriverCall
+link_program_calls t number None = []
+link_program_calls t number (Some p) = if can_link t.shaders p.attached then Program (program_calls.LinkProgram number) ∷ [] else []
+
+-- a validation of a program that is not linked makes none
+abbrev pub validate_program_calls : ℕ → Option programs.Program → List DriverCall
+validate_program_calls number None = []
+validate_program_calls number (Some p) = if is_some p.executable then Program (program_calls.ValidateProgram number) ∷ [] else []
+
 -- the driver calls of a command's name
 abbrev pub own_object_calls : EsState → ObjectCommand → List ℕ → Oracle → List DriverCall
 own_object_calls s (GenBuffers id) payload o = gen_call Buffers ∷ []
@@ -35,3 +53,19 @@ own_object_calls s (VertexAttrib4f index x y z w) payload o = Object (calls.Vert
 own_object_calls s (VertexAttribPointer index a) payload o = Object (calls.VertexAttribPointer index a.size a.kind a.normalized a.stride a.offset) ∷ []
 own_object_calls s (EnableVertexAttribArray index) payload o = Object (calls.SetArray index true) ∷ []
 own_object_calls s (DisableVertexAttribArray index) payload o = Object (calls.SetArray index false) ∷ []
+own_object_calls s (CreateShader id kind) payload o = Program (program_calls.CreateShader kind) ∷ []
+own_object_calls s (ShaderSource shader words) payload o = Program (program_calls.ShaderSource (number_of s.programs shader) payload) ∷ []
+own_object_calls s (CompileShader shader) payload o = Program (program_calls.CompileShader (number_of s.programs shader)) ∷ []
+own_object_calls s (DeleteShader shader) payload o = delete_object_calls (λ n. Program (program_calls.DeleteShader n)) s.programs shader
+own_object_calls s (CreateProgram id) payload o = Program program_calls.CreateProgram ∷ []
+own_object_calls s (AttachShader program shader) payload o =
+    Program (program_calls.AttachShader (number_of s.programs program) (number_of s.programs shader)) ∷ []
+own_object_calls s (DetachShader program shader) payload o =
+    Program (program_calls.DetachShader (number_of s.programs program) (number_of s.programs shader)) ∷ []
+own_object_calls s (BindAttribLocation program index words) payload o =
+    Program (program_calls.BindAttribLocation (number_of s.programs program) index payload) ∷ []
+own_object_calls s (LinkProgram program) payload o = link_program_calls s.programs (number_of s.programs program) (program_at s.programs program)
+own_object_calls s (ValidateProgram program) payload o = validate_program_calls (number_of s.programs program) (program_at s.programs program)
+own_object_calls s (UseProgram program) payload o = Program (program_calls.UseProgram (number_of s.programs program)) ∷ []
+own_object_calls s (DeleteProgram program) payload o = delete_object_calls (λ n. Program (program_calls.DeleteProgram n)) s.programs program
+own_object_calls s (Uniform location kind count transpose words) payload o = uniform_calls location kind count payload

@@ -1,14 +1,17 @@
 -- The code that a call on objects is refused with: the first whose condition holds, in the order INVALID_ENUM, INVALID_VALUE, OUT_OF_MEMORY by
 -- a limit, INVALID_FRAMEBUFFER_OPERATION, INVALID_OPERATION.
-use Rattle.std.specs.Prelude.{Option, None}
+use Rattle.std.specs.Prelude.{ℕ, List, [], Option, None}
 use Rattle.gl_plain.specs.declared.errors.GlError.{GlError}
 use Rattle.gl_plain.specs.declared.calls.ObjectCall.{ObjectCall}
 use Rattle.gl_plain.specs.declared.calls.ObjectCall.TheVariants as calls
 use Rattle.gl_plain.specs.declared.commands.ObjectCommand.{ObjectCommand}
-use Rattle.gl_plain.specs.declared.commands.ObjectCommand.TheVariants.{GenBuffers, BindBuffer, BufferData, BufferSubData, DeleteBuffers, VertexAttrib4f, VertexAttribPointer, EnableVertexAttribArray, DisableVertexAttribArray}
+use Rattle.gl_plain.specs.declared.commands.ObjectCommand.TheVariants.{GenBuffers, BindBuffer, BufferData, BufferSubData, DeleteBuffers, VertexAttrib4f, VertexAttribPointer, EnableVertexAttribArray, DisableVertexAttribArray, CreateShader, ShaderSource, CompileShader, DeleteShader, CreateProgram, AttachShader, DetachShader, BindAttribLocation, LinkProgram, ValidateProgram, UseProgram, DeleteProgram, Uniform}
 use Rattle.gl_plain.specs.subjects.Names.{gen_refusal}
 use Rattle.gl_plain.specs.subjects.Buffers.{gen_buffers_refusal, bind_buffer_refusal, buffer_data_refusal, buffer_sub_data_refusal}
 use Rattle.gl_plain.specs.subjects.Attributes.{attribute_refusal, vertex_attrib_pointer_refusal}
+use Rattle.gl_plain.specs.subjects.Programs.{create_shader_refusal, create_program_refusal, shader_refusal, program_refusal, delete_shader_refusal, delete_program_refusal, attach_shader_refusal, detach_shader_refusal, bind_attrib_location_refusal, use_program_refusal}
+use Rattle.gl_plain.specs.subjects.Uniforms.{uniform_refusal}
+use Rattle.gl_plain.specs.subjects.Data.{data_in}
 use Rattle.gl_plain.specs.State.{EsState}
 
 -- the refusal of a call
@@ -22,15 +25,41 @@ object_refusal s (calls.VertexAttrib4f index x y z w) = attribute_refusal index
 object_refusal s (calls.VertexAttribPointer index size kind normalized stride pointer) = vertex_attrib_pointer_refusal index size kind stride
 object_refusal s (calls.EnableVertexAttribArray index) = attribute_refusal index
 object_refusal s (calls.DisableVertexAttribArray index) = attribute_refusal index
+object_refusal s (calls.CreateShader kind) = create_shader_refusal s.programs kind
+object_refusal s (calls.ShaderSource shader source) = shader_refusal s.programs shader
+object_refusal s (calls.CompileShader shader) = shader_refusal s.programs shader
+object_refusal s (calls.DeleteShader shader) = delete_shader_refusal s.programs shader
+object_refusal s calls.CreateProgram = create_program_refusal s.programs
+object_refusal s (calls.AttachShader program shader) = attach_shader_refusal s.programs program shader
+object_refusal s (calls.DetachShader program shader) = detach_shader_refusal s.programs program shader
+object_refusal s (calls.BindAttribLocation program index name) = bind_attrib_location_refusal s.programs program index name
+object_refusal s (calls.LinkProgram program) = program_refusal s.programs program
+object_refusal s (calls.ValidateProgram program) = program_refusal s.programs program
+object_refusal s (calls.UseProgram program) = use_program_refusal s.programs program
+object_refusal s (calls.DeleteProgram program) = delete_program_refusal s.programs program
+object_refusal s (calls.Uniform location kind count transpose values) = uniform_refusal s.programs.installed location kind count transpose (data_in values)
 
--- the refusal of a command: that of its call, but a reserved name is not counted
-abbrev pub object_command_refusal : EsState → ObjectCommand → Option GlError
-object_command_refusal s (GenBuffers id) = gen_buffers_refusal s.buffers id
-object_command_refusal s (BindBuffer target id) = bind_buffer_refusal s.buffers target id
-object_command_refusal s (BufferData target size usage words) = buffer_data_refusal s.buffers target size usage
-object_command_refusal s (BufferSubData target offset size words) = buffer_sub_data_refusal s.buffers target offset size
-object_command_refusal s (DeleteBuffers id) = None
-object_command_refusal s (VertexAttrib4f index x y z w) = attribute_refusal index
-object_command_refusal s (VertexAttribPointer index a) = vertex_attrib_pointer_refusal index a.size a.kind a.stride
-object_command_refusal s (EnableVertexAttribArray index) = attribute_refusal index
-object_command_refusal s (DisableVertexAttribArray index) = attribute_refusal index
+-- the refusal of a command, with its data: that of its call, but a reserved name is not counted
+abbrev pub object_command_refusal : EsState → ObjectCommand → List ℕ → Option GlError
+object_command_refusal s (GenBuffers id) payload = gen_buffers_refusal s.buffers id
+object_command_refusal s (BindBuffer target id) payload = bind_buffer_refusal s.buffers target id
+object_command_refusal s (BufferData target size usage words) payload = buffer_data_refusal s.buffers target size usage
+object_command_refusal s (BufferSubData target offset size words) payload = buffer_sub_data_refusal s.buffers target offset size
+object_command_refusal s (DeleteBuffers id) payload = None
+object_command_refusal s (VertexAttrib4f index x y z w) payload = attribute_refusal index
+object_command_refusal s (VertexAttribPointer index a) payload = vertex_attrib_pointer_refusal index a.size a.kind a.stride
+object_command_refusal s (EnableVertexAttribArray index) payload = attribute_refusal index
+object_command_refusal s (DisableVertexAttribArray index) payload = attribute_refusal index
+object_command_refusal s (CreateShader id kind) payload = create_shader_refusal s.programs kind
+object_command_refusal s (ShaderSource shader words) payload = shader_refusal s.programs shader
+object_command_refusal s (CompileShader shader) payload = shader_refusal s.programs shader
+object_command_refusal s (DeleteShader shader) payload = delete_shader_refusal s.programs shader
+object_command_refusal s (CreateProgram id) payload = create_program_refusal s.programs
+object_command_refusal s (AttachShader program shader) payload = attach_shader_refusal s.programs program shader
+object_command_refusal s (DetachShader program shader) payload = detach_shader_refusal s.programs program shader
+object_command_refusal s (BindAttribLocation program index words) payload = bind_attrib_location_refusal s.programs program index payload
+object_command_refusal s (LinkProgram program) payload = program_refusal s.programs program
+object_command_refusal s (ValidateProgram program) payload = program_refusal s.programs program
+object_command_refusal s (UseProgram program) payload = use_program_refusal s.programs program
+object_command_refusal s (DeleteProgram program) payload = delete_program_refusal s.programs program
+object_command_refusal s (Uniform location kind count transpose words) payload = uniform_refusal s.programs.installed location kind count transpose payload

@@ -1,5 +1,5 @@
 -- What a call on objects leaves, where it is not refused.
-use Rattle.std.specs.Prelude.{ℕ, true, false, ◌==◌, if◌then◌else◌, List, [], ◌∷◌, Option, None, Some}
+use Rattle.std.specs.Prelude.{ℕ, true, false, ◌==◌, if◌then◌else◌, List, [], ◌∷◌, Option, None, Some, is_some}
 use Rattle.std.specs.FinMap as map
 use Rattle.gl_plain.specs.declared.objects.Name.{Name}
 use Rattle.gl_plain.specs.declared.errors.GlError.TheVariants.{OutOfMemory}
@@ -9,14 +9,17 @@ use Rattle.gl_plain.specs.declared.calls.ObjectCall.TheVariants as calls
 use Rattle.gl_plain.specs.declared.calls.Reply.{Reply}
 use Rattle.gl_plain.specs.declared.calls.Reply.TheVariants as reply
 use Rattle.gl_plain.specs.declared.commands.ObjectCommand.{ObjectCommand}
-use Rattle.gl_plain.specs.declared.commands.ObjectCommand.TheVariants.{GenBuffers, BindBuffer, BufferData, BufferSubData, DeleteBuffers, VertexAttrib4f, VertexAttribPointer, EnableVertexAttribArray, DisableVertexAttribArray}
+use Rattle.gl_plain.specs.declared.commands.ObjectCommand.TheVariants.{GenBuffers, BindBuffer, BufferData, BufferSubData, DeleteBuffers, VertexAttrib4f, VertexAttribPointer, EnableVertexAttribArray, DisableVertexAttribArray, CreateShader, ShaderSource, CompileShader, DeleteShader, CreateProgram, AttachShader, DetachShader, BindAttribLocation, LinkProgram, ValidateProgram, UseProgram, DeleteProgram, Uniform}
 use Rattle.gl_plain.specs.declared.driver_calls.Stored.{Stored}
 use Rattle.gl_plain.specs.declared.driver_calls.Stored.TheVariants as room
 use Rattle.gl_plain.specs.Words.{natural}
 use Rattle.gl_plain.specs.subjects.Names.{all_named}
-use Rattle.gl_plain.specs.subjects.Data.{bytes_of}
+use Rattle.gl_plain.specs.subjects.Data.{bytes_of, data_in}
 use Rattle.gl_plain.specs.subjects.Buffers.{BufferTables, bind_buffer_effect, buffer_data_effect, buffer_sub_data_effect, without_buffer}
 use Rattle.gl_plain.specs.subjects.Attributes.{vertex_attrib_4f_effect, vertex_attrib_pointer_effect, array_of, set_array_effect, all_outside}
+use Rattle.gl_plain.specs.subjects.Programs.{ProgramTables, number_of, program_at, create_shader_effect, create_program_effect, shader_source_effect, compile_shader_effect, delete_shader_effect, delete_program_effect, attach_shader_effect, detach_shader_effect, bind_attrib_location_effect, can_link, link_program_effect, failed_link, validate_program_effect, validate_unlinked_effect, use_program_effect}
+use Rattle.gl_plain.specs.subjects.Uniforms.{uniform_effect}
+use Rattle.gl_plain.specs.declared.programs.Program.{Program}
 use Rattle.gl_plain.specs.Oracle.{Oracle, first, behind, behind_all}
 use Rattle.gl_plain.specs.State.{EsState}
 use Rattle.gl_plain.specs.Spaces.{Space, Buffers, names_in, with_names, with_name, numbers_in, with_numbers}
@@ -53,6 +56,40 @@ abbrev pub buffers_deleted : EsState → List ℕ → EsState
 buffers_deleted s [] = s
 buffers_deleted s (id ∷ ids) = buffers_deleted (buffer_deleted_by s id (map.get s.buffers.names id)) ids
 
+-- the state with other programs, which asks nothing
+abbrev pub with_programs : EsState → ProgramTables → EsState
+with_programs s t = record s { programs = t }
+
+-- CreateShader and CreateProgram give one name, with the next number
+abbrev pub create_outcome : (ℕ → ℕ → ProgramTables) → EsState → List ℕ → Oracle → Outcome EsState
+create_outcome create s [] o = leaves s o
+create_outcome create s (id ∷ ids) o =
+    record { state = with_programs s (create id (first o.programs)); oracle = record o { programs = behind o.programs }; reply = reply.Word id }
+
+-- CompileShader takes the compiler's next answer
+abbrev pub compile_outcome : EsState → ℕ → Oracle → Outcome EsState
+compile_outcome s number o = leaves (with_programs s (compile_shader_effect s.programs number (first o.compile))) (record o { compile = behind o.compile })
+
+-- a deletion of 0 changes nothing
+abbrev pub delete_outcome : (ℕ → ProgramTables) → EsState → ℕ → Oracle → Outcome EsState
+delete_outcome delete s id o = if id == 0 then leaves s o else leaves (with_programs s (delete (number_of s.programs id))) o
+
+-- LinkProgram takes the linker's next answer where the two shaders are there, and else fails
+abbrev pub link_outcome : EsState → ℕ → Option Program → Oracle → Outcome EsState
+link_outcome s number None o = leaves s o
+link_outcome s number (Some p) o =
+    if can_link s.programs.shaders p.attached
+    then leaves (with_programs s (link_program_effect s.programs number (first o.link))) (record o { link = behind o.link })
+    else leaves (with_programs s (link_program_effect s.programs number failed_link)) o
+
+-- ValidateProgram takes the next answer where the program is linked
+abbrev pub validate_outcome : EsState → ℕ → Option Program → Oracle → Outcome EsState
+validate_outcome s number None o = leaves s o
+validate_outcome s number (Some p) o =
+    if is_some p.executable
+    then leaves (with_programs s (validate_program_effect s.programs number (first o.validate))) (record o { validate = behind o.validate })
+    else leaves (with_programs s (validate_unlinked_effect s.programs number)) o
+
 -- a call on objects that is not refused; a Gen gives the names
 abbrev pub object_outcome : EsState → List ℕ → ObjectCall → Oracle → Outcome EsState
 object_outcome s names (calls.GenBuffers count) o = gen_outcome Buffers s names o
@@ -69,8 +106,26 @@ object_outcome s names (calls.VertexAttribPointer index size kind normalized str
     leaves (record s { attribs = vertex_attrib_pointer_effect s.attribs index (array_of s.buffers size kind normalized stride offset) }) o
 object_outcome s names (calls.EnableVertexAttribArray index) o = leaves (record s { attribs = set_array_effect s.attribs index true }) o
 object_outcome s names (calls.DisableVertexAttribArray index) o = leaves (record s { attribs = set_array_effect s.attribs index false }) o
+object_outcome s names (calls.CreateShader kind) o = create_outcome (λ id number. create_shader_effect s.programs id number kind) s names o
+object_outcome s names (calls.ShaderSource shader source) o =
+    leaves (with_programs s (shader_source_effect s.programs (number_of s.programs shader) (data_in source))) o
+object_outcome s names (calls.CompileShader shader) o = compile_outcome s (number_of s.programs shader) o
+object_outcome s names (calls.DeleteShader shader) o = delete_outcome (delete_shader_effect s.programs) s shader o
+object_outcome s names calls.CreateProgram o = create_outcome (create_program_effect s.programs) s names o
+object_outcome s names (calls.AttachShader program shader) o =
+    leaves (with_programs s (attach_shader_effect s.programs (number_of s.programs program) (number_of s.programs shader))) o
+object_outcome s names (calls.DetachShader program shader) o =
+    leaves (with_programs s (detach_shader_effect s.programs (number_of s.programs program) (number_of s.programs shader))) o
+object_outcome s names (calls.BindAttribLocation program index name) o =
+    leaves (with_programs s (bind_attrib_location_effect s.programs (number_of s.programs program) index name)) o
+object_outcome s names (calls.LinkProgram program) o = link_outcome s (number_of s.programs program) (program_at s.programs program) o
+object_outcome s names (calls.ValidateProgram program) o = validate_outcome s (number_of s.programs program) (program_at s.programs program) o
+object_outcome s names (calls.UseProgram program) o = leaves (with_programs s (use_program_effect s.programs (number_of s.programs program))) o
+object_outcome s names (calls.DeleteProgram program) o = delete_outcome (delete_program_effect s.programs) s program o
+object_outcome s names (calls.Uniform location kind count transpose values) o =
+    leaves (with_programs s (uniform_effect s.programs location kind count (data_in values))) o
 
--- the reply of a command: a Gen gives the names that its command brought, and says no more; no other command on objects has a reply
+-- the reply of a command: that of its call, but a Gen gives the names that its command brought, and says no more
 abbrev pub object_reply : ObjectCommand → Reply → Reply
 object_reply (GenBuffers id) r = reply.None
 object_reply (BindBuffer target id) r = r
@@ -81,6 +136,19 @@ object_reply (VertexAttrib4f index x y z w) r = r
 object_reply (VertexAttribPointer index a) r = r
 object_reply (EnableVertexAttribArray index) r = r
 object_reply (DisableVertexAttribArray index) r = r
+object_reply (CreateShader id kind) r = r
+object_reply (ShaderSource shader words) r = r
+object_reply (CompileShader shader) r = r
+object_reply (DeleteShader shader) r = r
+object_reply (CreateProgram id) r = r
+object_reply (AttachShader program shader) r = r
+object_reply (DetachShader program shader) r = r
+object_reply (BindAttribLocation program index words) r = r
+object_reply (LinkProgram program) r = r
+object_reply (ValidateProgram program) r = r
+object_reply (UseProgram program) r = r
+object_reply (DeleteProgram program) r = r
+object_reply (Uniform location kind count transpose words) r = r
 
 -- what a call leaves, with its command's reply
 abbrev pub with_object_reply : ObjectCommand → Outcome EsState → Outcome EsState

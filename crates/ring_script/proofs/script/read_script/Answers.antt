@@ -1,4 +1,5 @@
 use Rattle.std.proofs.Common.{arith, rules}
+use Rattle.gl_plain.proofs.SoundAnswers.{sound_answers}
 use Rattle.ring_script.proofs.FirstBad.{first_bad}
 use Rattle.ring_script.proofs.Soundness.{sound_with}
 use Rattle.ring_script.proofs.script.read_script.Goals as goal
@@ -12,3 +13,6 @@ reading-preserved c = record {
   count = grind arith;
   sound = sound_with c.first_line.result.0.now c.reading.draft c.take_text.new.draft c.reading.invariant.sound (search rules);
 }
+
+pub returns-clause-answers : goal.returns-clause-answers
+returns-clause-answers c = rw c.in_ok-into_script.ensures (sound_answers c.reading.draft.answers c.reading.invariant.sound.answers)

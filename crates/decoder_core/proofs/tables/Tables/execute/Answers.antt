@@ -1,30 +1,41 @@
-use Rattle.std.proofs.Common.{sym, refl}
-use Rattle.gl_plain.specs.declared.commands.Command.TheVariants.{Noop, Query, SetToken}
+use Rattle.std.proofs.Common.{sym, refl, ◌∙◌, Some, ap}
+use Rattle.gl_plain.specs.declared.commands.Command.TheVariants.{Noop, Bucket, Object, Query, SetToken}
 use Rattle.decoder_core.specs.Execution.{state_of}
-use Rattle.decoder_core.proofs.Payloads.{readable_data}
+use Rattle.decode_objects.specs.States.{objects_in}
+use Rattle.decoder_core.proofs.Payloads.{readable_bucket, given_object}
 use Rattle.decoder_core.proofs.Executions.{performs_alone, performs_lawfully, does_nothing}
 use Rattle.decoder_core.proofs.tables.Tables.execute.Goals as goal
 
 pub returns-in-Some-Noop : goal.returns-in-Some-Noop
 returns-in-Some-Noop g c =
-    performs_alone c.args.command.now _ c.args.driver.now c.requires.agrees g.met.D.Driver.grown_itself Noop _ _ (sym (rw c.in-Some-Noop.field-0-is at c.in-Some-Noop.ensures)) (does_nothing _)
+    performs_alone c.args.command.now _ c.args.driver.now c.requires.agrees g.met.D.Driver.grown_itself Noop refl _ _ (sym (rw c.in-Some-Noop.field-0-is at c.in-Some-Noop.ensures)) (does_nothing _ c.args.command.now.payload)
 
 pub returns-in-Some-SetToken : goal.returns-in-Some-SetToken
 returns-in-Some-SetToken g c =
-    performs_alone c.args.command.now _ c.args.driver.now c.requires.agrees g.met.D.Driver.grown_itself (SetToken c.in-Some-SetToken.token) _ c.set_token.result (sym (rw c.in-Some-SetToken.field-0-is at c.in-Some-SetToken.ensures)) c.set_token.ensures
+    performs_alone c.args.command.now _ c.args.driver.now c.requires.agrees g.met.D.Driver.grown_itself (SetToken c.in-Some-SetToken.token) refl _ c.set_token.result (sym (rw c.in-Some-SetToken.field-0-is at c.in-Some-SetToken.ensures)) (c.set_token.ensures c.args.command.now.payload)
 
 pub returns-in-Some-Query : goal.returns-in-Some-Query
 returns-in-Some-Query g c =
-    performs_alone c.args.command.now _ c.args.driver.now c.requires.agrees g.met.D.Driver.grown_itself (Query c.in-Some-Query.query) _ c.query.result (sym (rw c.in-Some-Query.field-0-is at c.in-Some-Query.ensures)) c.query.ensures
+    performs_alone c.args.command.now _ c.args.driver.now c.requires.agrees g.met.D.Driver.grown_itself (Query c.in-Some-Query.query) refl _ c.query.result (sym (rw c.in-Some-Query.field-0-is at c.in-Some-Query.ensures)) (c.query.ensures c.args.command.now.payload)
 
-pub object_command-requires-clause-family : goal.object_command-requires-clause-family
-object_command-requires-clause-family g c =
+pub returns-in-Some-Bucket : goal.returns-in-Some-Bucket
+returns-in-Some-Bucket g c =
+    performs_alone c.args.command.now _ c.args.driver.now c.requires.agrees g.met.D.Driver.grown_itself (Bucket c.in-Some-Bucket.bucket) refl _ c.bucket.result (sym (rw c.in-Some-Bucket.field-0-is at c.in-Some-Bucket.ensures)) (rw c.as_slice.ensures at c.bucket.ensures)
+
+pub bucket-requires : goal.bucket-requires
+bucket-requires g c = rw c.as_slice.ensures (readable_bucket c.args.command.now c.requires.readable c.in-Some-Bucket.bucket (sym (rw c.in-Some-Bucket.field-0-is at c.in-Some-Bucket.ensures)))
+
+pub execute_object-requires-clause-given : goal.execute_object-requires-clause-given
+execute_object-requires-clause-given g c =
+    (given_object c.args.command.now c.requires.readable (state_of c.args.self.now) c.in-Some-Object.object _ _ c.in-Some.payload.now (sym (rw c.in-Some-Object.field-0-is at c.in-Some-Object.ensures)) c.data_words.ensures c.as_slice-beside.ensures (sym c.in-Some.ensures.broken) c.in-Some.ensures.given).given
+
+pub execute_object-requires-clause-agrees : goal.execute_object-requires-clause-agrees
+execute_object-requires-clause-agrees g c = record { others = state_of c.args.self.now; agrees = c.requires.agrees }
+
+pub returns-in-Some : goal.returns-in-Some
+returns-in-Some g c =
     let spelled = sym (rw c.in-Some-Object.field-0-is at c.in-Some-Object.ensures) in
-    (_, spelled, rw c.as_slice.ensures (readable_data c.args.command.now c.requires.readable _ spelled))
-
-pub object_command-requires-clause-agrees : goal.object_command-requires-clause-agrees
-object_command-requires-clause-agrees g c = record { others = state_of c.args.self.now; agrees = c.requires.agrees }
-
-pub returns-in-Some-Object : goal.returns-in-Some-Object
-returns-in-Some-Object g c =
-    performs_lawfully c.args.command.now _ c.args.driver.now c.requires.agrees c.as_slice.result.now _ _ _ c.object_command.new.driver c.object_command.result c.as_slice.ensures refl refl c.object_command.ensures
+    let given = given_object c.args.command.now c.requires.readable (state_of c.args.self.now) c.in-Some-Object.object _ _ c.in-Some.payload.now spelled c.data_words.ensures c.as_slice-beside.ensures (sym c.in-Some.ensures.broken) c.in-Some.ensures.given in
+    let before = objects_in c.args.self.now.buffers c.args.self.now.programs c.args.self.now.attribs c.args.self.now.errors in
+    let after = objects_in c.execute_object.new.buffers c.execute_object.new.programs c.execute_object.new.attribs c.execute_object.new.errors in
+    performs_lawfully c.args.command.now (state_of c.args.self.now) c.args.driver.now c.requires.agrees (Object c.in-Some-Object.object) c.in-Some.payload.now before after _ c.execute_object.new.driver c.execute_object.result spelled given.whole given.is refl refl c.execute_object.ensures

@@ -3,7 +3,6 @@ use Rattle.std.proofs.Common.{◌≡◌, true, refl, ◌∙◌, ap, is_some}
 use Rattle.std.specs.FinMap as map
 use Rattle.gl_base.proofs.Found.{get-insert_here, get-insert_other}
 use Rattle.gl_plain.specs.subjects.Names.{new_name, made_object}
-use Rattle.strict_driver.specs.declared.name_space.Standing.{Standing}
 use Rattle.strict_driver.specs.declared.name_space.Standing.TheVariants.{Unmade, Made}
 use Rattle.strict_driver.specs.Standings.{Space, object_in}
 use Rattle.strict_driver.proofs.Placing.{unmade, placed-made, names-set, objects-set, keeps-insert, given-kept}

@@ -1,7 +1,6 @@
 -- That a name is gone with its object.
-use Rattle.std.proofs.Common.{◌≡◌, refl, sym, ◌∙◌, ap, Some, None, IfSome}
+use Rattle.std.proofs.Common.{◌≡◌, sym, ◌∙◌, ap, Some, None}
 use Rattle.std.specs.FinMap as map
-use Rattle.gl_plain.specs.declared.objects.Name.{Name}
 use Rattle.strict_driver.specs.declared.name_space.Standing.TheVariants.{Made, Gone}
 use Rattle.strict_driver.specs.Standings.{Space, object_in}
 use Rattle.strict_driver.proofs.Placing.{keeps-change, placed-gone, get_object, space-gone, in_place, in_no_place, left_without_object, own_number, without_name}

@@ -1,5 +1,5 @@
 -- That a write over a value is an insert at its key.
-use Rattle.std.proofs.Common.{refl, ◌∙◌}
+use Rattle.std.proofs.Common.{refl}
 use Rattle.strict_driver.proofs.Entries.{get_entry, entry_inserted}
 use Rattle.strict_driver.proofs.ordered.OrderedMap.replace.Goals as goal
 

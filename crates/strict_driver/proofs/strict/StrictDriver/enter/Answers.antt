@@ -1,6 +1,6 @@
 -- That one more call leaves the driver as its journal says.
 use Rattle.std.proofs.Common.{refl}
-use Rattle.strict_driver.proofs.Entering.{tables_allow, tables_answer, tables_settled, strict_entered, counted_entered, step_entered, served_entered}
+use Rattle.strict_driver.proofs.Entering.{tables_allow, tables_answer, tables_follow, strict_entered, counted_entered, step_entered, served_entered}
 use Rattle.strict_driver.proofs.strict.StrictDriver.enter.Goals as goal
 
 pub apply-requires-clause-allowed : goal.apply-requires-clause-allowed
@@ -9,12 +9,12 @@ apply-requires-clause-allowed c = rw c.as_slice.ensures (tables_allow c.self.ins
 pub apply-requires-clause-answered : goal.apply-requires-clause-answered
 apply-requires-clause-answered c = rw c.as_slice.ensures (tables_answer c.self.inside c.args.self.now c.self.view_is c.self.invariant c.args.call c.args.answer c.requires.going c.requires.allowed c.requires.next)
 
-pub apply-requires-clause-settled : goal.apply-requires-clause-settled
-apply-requires-clause-settled c = rw c.as_slice.ensures (tables_settled c.self.inside c.args.self.now c.self.view_is c.self.invariant c.args.call c.args.answer c.requires.going c.requires.allowed c.requires.next)
+pub apply-requires-clause-follow : goal.apply-requires-clause-follow
+apply-requires-clause-follow c = rw c.as_slice.ensures (tables_follow c.self.inside c.args.self.now c.self.view_is c.self.invariant c.args.call c.args.answer c.requires.going c.requires.allowed c.requires.next)
 
 pub invariant_of-self-2 : goal.invariant_of-self-2
 invariant_of-self-2 c =
-    let counted = c.in-Some.ensures.some c.self.inside.loaded.oom in
+    let counted = c.in-Some.ensures.some c.self.inside.loaded in
     record {
       journal = strict_entered c.self.inside c.args.self.now c.self.view_is c.self.invariant c.args.call c.args.answer c.requires.going c.requires.allowed c.requires.next c.push.new.self c.in-Ok-push.ensures.ok c.apply.new.self.surface c.in-Ok.ensures.surface c.requires.within;
       counted = counted_entered c.self.inside c.args.self.now c.self.view_is c.self.invariant c.args.call c.args.answer c.requires.going c.requires.allowed c.requires.next c.push.new.self c.in-Ok-push.ensures.ok c.in-Some.counts counted;

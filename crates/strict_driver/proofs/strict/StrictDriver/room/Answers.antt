@@ -1,5 +1,5 @@
 -- That there is room where the answers that are left say so.
-use Rattle.std.proofs.Common.{◌≡◌, ◌==◌, sym, ◌∙◌, ap, true, false}
+use Rattle.std.proofs.Common.{◌==◌, sym, ◌∙◌, ap, true, false}
 use Rattle.std.specs.List.{list_any}
 use Rattle.strict_driver.proofs.Entering.{room_left}
 use Rattle.strict_driver.proofs.strict.StrictDriver.room.Goals as goal
