@@ -22,8 +22,10 @@ PROGRAM = sys.argv[1]
 RUNS = 5
 ENTRIES = 1048576
 DATA_LIMIT = 67108864
-NOOP, GEN_BUFFERS, BIND_BUFFER, BUFFER_DATA, BUFFER_SUB_DATA, DELETE_BUFFERS, GET_ERROR = 0, 257, 258, 259, 260, 261, 327
-ARRAY_BUFFER, STATIC_DRAW = 0x8892, 0x88E4
+NOOP, SET_BUCKET_SIZE, SET_BUCKET_DATA = 0, 2, 3
+GEN_BUFFERS, BIND_BUFFER, BUFFER_DATA, BUFFER_SUB_DATA, DELETE_BUFFERS, GET_ERROR = 257, 258, 259, 260, 261, 327
+CREATE_SHADER, COMPILE_SHADER, CREATE_PROGRAM, ATTACH_SHADER, LINK_PROGRAM, USE_PROGRAM, UNIFORM = 280, 282, 284, 285, 288, 290, 292
+ARRAY_BUFFER, STATIC_DRAW, VERTEX_SHADER, FRAGMENT_SHADER = 0x8892, 0x88E4, 0x8B31, 0x8B30
 
 
 def command(number, *words):
@@ -69,6 +71,45 @@ def buffer_data(n):
         ring += command(BIND_BUFFER, ARRAY_BUFFER, k % 4 + 1)
         ring += command(BUFFER_DATA, ARRAY_BUFFER, 16, STATIC_DRAW, 0, 0, 0, 0)
     return script(ring), n + 4, n + 5
+
+
+def program():
+    """A program of two compiled shaders, linked and current. It takes 18 copies."""
+    ring = b"".join(command(CREATE_SHADER, id, kind, 1, 0) + command(COMPILE_SHADER, id) for id, kind in ((1, VERTEX_SHADER), (2, FRAGMENT_SHADER)))
+    ring += command(CREATE_PROGRAM, 3, 1, 0) + command(ATTACH_SHADER, 3, 1) + command(ATTACH_SHADER, 3, 2)
+    return ring + command(LINK_PROGRAM, 3) + command(USE_PROGRAM, 3)
+
+
+def link_lines(uniforms):
+    return "link ok -\n" + "".join(f"uniform u{k} FLOAT_VEC4 1\n" for k in range(uniforms))
+
+
+def uniforms(n):
+    """Rounds of 100,000 commands over 256 uniforms. Behind the first round a Noop covers the commands that make the program."""
+    front = program()
+    size = len(front) // 4
+    ring = front + b"".join(command(UNIFORM, k % 256, 4, 1, 0, 1, 16, 1, 0) for k in range(100000))
+    entries = len(ring) // 4
+    text = f"ring {entries}\n{link_lines(256)}region 1 16\nbytes 1 0 {'3f' * 16}\nbytes 0 0 {ring.hex()}\n"
+    text += f"at 18 0 0 {struct.pack('<I', size).hex()}\n"
+    return (text + f"put {entries // 2 // 9 * 9 + size % 9}\nput 0\n" * (n // 100000)).encode(), n, n + 13
+
+
+def links(n):
+    """n links of 8 uniforms each."""
+    ring = program() + command(LINK_PROGRAM, 3) * (n - 1)
+    return script(ring, link_lines(8) * n + "region 1 8\n"), n + 8, n + 12
+
+
+def through_bucket(n):
+    """n bytes in all: pieces of 1 MiB fill a bucket of 64 MiB, and a BufferData uses it."""
+    piece = 1 << 20
+    ring = command(GEN_BUFFERS, 1) + command(BIND_BUFFER, ARRAY_BUFFER, 1)
+    for _ in range(n // DATA_LIMIT):
+        ring += command(SET_BUCKET_SIZE, 0, DATA_LIMIT)
+        ring += b"".join(command(SET_BUCKET_DATA, 0, k * piece, 1, piece, 1, 0) for k in range(DATA_LIMIT // piece))
+        ring += command(BUFFER_DATA, ARRAY_BUFFER, DATA_LIMIT, STATIC_DRAW, 2, DATA_LIMIT, 0, 0)
+    return script(ring, f"region 1 {piece}\n"), 2 + (n // DATA_LIMIT) * 66, 3 + n // DATA_LIMIT
 
 
 def comment(n):
@@ -152,6 +193,9 @@ ROWS = [
     ("BufferData of 64 MiB of a region", large_fetched, 1),
     ("the same, refused when it was fetched", large_refused, 4),
     ("GetError", get_errors, 170000),
+    ("Uniform of 16 bytes, 256 uniforms", uniforms, 500000),
+    ("LinkProgram, 8 uniforms", links, 50000),
+    ("64 MiB through a bucket", through_bucket, DATA_LIMIT),
     ("Noops, a put for each 1,024", large_rounds, 500000),
     ("Noops, a put for each", small_rounds, 500000),
     ("Noops, each before its own copy", overwrites_in_turn, 500000),
