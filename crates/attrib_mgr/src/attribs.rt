@@ -1,10 +1,11 @@
 //! The vertex attributes of the service (OpenGL ES 2.0.25, sections 2.7 and 2.8).
-ghost use Rattle.std.specs.Prelude.{◌≡◌, OnOk, OnErr};
+ghost use Rattle.std.specs.Prelude.{◌≡◌, ◌+◌, OnOk, OnErr, length};
+ghost use Rattle.gl_base.specs.declared.limits.TheConstants.{LAST_ATTRIBUTE};
 ghost use Rattle.gl_plain.specs.subjects.Attributes as plain;
 ghost use Rattle.attrib_mgr.specs.Refused.{code_in, array_refusal};
 
 use crate::refusals::{attribute_refusal, pointer_refusal};
-use gl_plain::{ArraySpec, GlError, VertexAttributes};
+use gl_plain::{ArraySpec, GlError, VertexAttribute, VertexAttributes};
 
 /// The vertex attributes of the service. None of its calls takes memory, and a refused one changes nothing.
 #[derive(Drop)]
@@ -20,6 +21,14 @@ impl Attribs {
         Attribs {
             attributes: VertexAttributes::new(),
         }
+    }
+
+    /// All attributes, by their index.
+    pub fn all(&self) -> &[VertexAttribute; 16]
+        ensures value { result.now ≡ self.now.attributes.attributes }
+        ensures count { length result.now ≡ LAST_ATTRIBUTE + 1 }
+    {
+        self.attributes.all()
     }
 
     /// Sets the array of an attribute. It is refused as `pointer_refusal` says.

@@ -1,8 +1,11 @@
 //! A buffer object (OpenGL ES 2.0.25, section 2.9).
-ghost use Rattle.std.specs.Prelude.{◌≡◌, Some, OnOk, OnErr, is_none, length};
+ghost use Rattle.std.specs.Prelude.{◌≡◌, ◌≤◌, Some, OnOk, OnErr, is_none, length, true};
 ghost use Rattle.std.specs.Bool.{OnTrue, OnFalse};
+ghost use Rattle.gl_base.specs.declared.limits.TheConstants.{DATA_LIMIT};
+ghost use Rattle.gl_plain.specs.subjects.Draws as d;
 ghost use Rattle.gl_plain.specs.subjects.Buffers.{changed, empty_buffer, range_refusal};
 
+use crate::indices::max_index;
 use gl_base::GlEnum;
 use gl_base::enums::STATIC_DRAW;
 use gl_plain::Bytes;
@@ -17,11 +20,15 @@ pub struct Buffer {
 }
 
 impl Model for Buffer {
+    ghost use Rattle.std.specs.Prelude.{◌≤◌, length};
+    ghost use Rattle.gl_base.specs.declared.limits.TheConstants.{DATA_LIMIT};
     ghost use Rattle.gl_plain.specs.declared.objects.Buffer as tables;
 
     ghost Value = { tables.Buffer };
 
     ghost view = { λ a. record { bytes = a.bytes; usage = a.usage } };
+
+    ghost invariant = { λ a. length a.bytes ≤ DATA_LIMIT };
 }
 
 impl Buffer {
@@ -42,6 +49,14 @@ impl Buffer {
         self.bytes.as_slice()
     }
 
+    /// How many bytes it has, which is never more than the limit of data.
+    pub fn size(&self) -> u32
+        ensures size { result ≡ length self.now.bytes }
+        ensures limit { result ≤ DATA_LIMIT }
+    {
+        self.bytes.len() as u32
+    }
+
     /// How its client means to use them.
     pub fn usage(&self) -> GlEnum
         ensures { result ≡ self.now.usage }
@@ -49,8 +64,18 @@ impl Buffer {
         self.usage
     }
 
+    /// The greatest of so many indices of this kind from a byte on, as a draw reads them (section 2.8). `None` where there are none, and where
+    /// they are not inside the bytes. It takes no memory.
+    pub fn max_index(&self, offset: u32, count: u32, kind: GlEnum) -> Option<u32>
+        requires { d.is_index_kind kind ≡ true }
+        ensures { result ≡ d.max_index self.now.bytes offset count kind }
+    {
+        max_index(self.bytes.as_slice(), offset, count, kind)
+    }
+
     /// Puts these bytes and this usage in place of what it has. It takes no memory so far, and answers `Ok`.
     pub fn store(&mut self, bytes: Bytes, usage: GlEnum) -> Result<(), AllocError>
+        requires { length bytes ≤ DATA_LIMIT }
         ensures ok { OnOk result (self.new ≡ record { bytes = bytes; usage = usage }) }
         ensures err { OnErr result (self.new ≡ self.old) }
     {

@@ -1,9 +1,10 @@
 //! The buffers of the service (OpenGL ES 2.0.25, section 2.9).
-ghost use Rattle.std.specs.Prelude.{◌≡◌, OnOk, OnErr, IsSome, is_none, length};
+ghost use Rattle.std.specs.Prelude.{◌≡◌, ◌≤◌, OnOk, OnErr, IsSome, is_none, length};
 ghost use Rattle.std.specs.Bool.{OnTrue, OnFalse};
 ghost use Rattle.std.specs.FinMap as map;
 ghost use Rattle.std.specs.Option.{option_copied};
 ghost use Rattle.gl_base.specs.Names as limits;
+ghost use Rattle.gl_base.specs.declared.limits.TheConstants.{DATA_LIMIT};
 ghost use Rattle.gl_plain.specs.subjects.Names.{new_name, unbound};
 ghost use Rattle.gl_plain.specs.subjects.Buffers as plain;
 ghost use Rattle.gl_plain.specs.subjects.Attributes.{object_of};
@@ -88,6 +89,13 @@ impl Buffers {
         self.objects.get(self.binding(target))
     }
 
+    /// The buffer of this number, or none.
+    pub fn object(&self, number: u64) -> Option<&Buffer>
+        ensures { option_copied result ≡ map.get (tables self.now).objects number }
+    {
+        self.objects.get(number)
+    }
+
     /// The number of the buffer that ARRAY_BUFFER binds, if it binds one.
     pub fn array_object(&self) -> Option<u64>
         ensures { result ≡ object_of (tables self.now).array }
@@ -153,7 +161,8 @@ impl Buffers {
 
     /// Puts bytes and a usage in place of those of the buffer that the target binds. It takes no memory so far, and answers `Ok`.
     pub fn store(&mut self, target: GlEnum, bytes: Bytes, usage: GlEnum) -> Result<(), AllocError>
-        requires { IsSome (plain.bound (tables self.old) target) }
+        requires bound { IsSome (plain.bound (tables self.old) target) }
+        requires limit { length bytes ≤ DATA_LIMIT }
         ensures ok { OnOk result (tables self.new ≡ plain.buffer_data_effect (tables self.old) target bytes usage) }
         ensures err { OnErr result (tables self.new ≡ tables self.old) }
     {

@@ -3,6 +3,7 @@
 
 mod buffer;
 mod buffers;
+mod indices;
 
 pub use buffer::Buffer;
 pub use buffers::{Buffers, is_buffer_target};

@@ -1,5 +1,5 @@
 //! The tests of a command: five of its header, and the sixth of the range that its words name.
-ghost use Rattle.std.specs.Prelude.{◌≡◌, ◌<◌, ◌^◌, IfSome, IfOk, IfErr, None, Some};
+ghost use Rattle.std.specs.Prelude.{◌≡◌, ◌<◌, ◌^◌, IfSome, IfOk, IfErr, None, Some, is_none};
 ghost use Rattle.cb_format.specs.Layouts.{IsFitting, built_layout};
 ghost use Rattle.cb_format.specs.Ring as ring;
 ghost use Rattle.cb_fetch.specs.Steps.{IsFront, IsStart};
@@ -17,6 +17,22 @@ fn built(number: u32) -> Option<Layout>
     if known(number) { layout(number) } else { None }
 }
 
+/// How many entries are ready from get on. A command does not cross the ring's end.
+fn ready(entries: u32, put: u32, get: u32) -> u32
+    requires { get < entries }
+    ensures { result ≡ ring.ready entries put get }
+{
+    if get < put { put - get } else { entries - get }
+}
+
+/// Whether a command of so many entries has as many as its layout says.
+fn has_size(size: u32, layout: Layout) -> bool
+    requires { IsFitting layout }
+    ensures { result ≡ is_none (ring.layout_fault size (Some layout)) }
+{
+    layout.any_size || size == layout.words + 1
+}
+
 /// Tests a header, with put below the entries. Where it passes it is parsed, and otherwise this says which test is the first that fails.
 #[tactic(auto, unfolding(cb_format::specs::Ring::first_fault))]
 pub fn start(entries: u32, put: u32, get: u32, word: u32) -> Result<Start, Malformed>
@@ -29,15 +45,12 @@ pub fn start(entries: u32, put: u32, get: u32, word: u32) -> Result<Start, Malfo
     if header.size == 0 {
         return Err(Malformed::InvalidSize);
     }
-    let ready = if get < put { put - get } else { entries - get };
-    if ready < header.size {
+    if ready(entries, put, get) < header.size {
         return Err(Malformed::OutOfBounds);
     }
     match built(header.number) {
         None => Err(Malformed::UnknownCommand),
-        Some(layout) if layout.any_size || header.size == layout.words + 1 => {
-            Ok(Start { header, layout })
-        }
+        Some(layout) if has_size(header.size, layout) => Ok(Start { header, layout }),
         Some(_) => Err(Malformed::InvalidArguments),
     }
 }

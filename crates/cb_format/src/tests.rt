@@ -25,9 +25,9 @@ fn tables_end_where_they_do(rt: HostRuntime) {
     assert_eq!(rt; layout(u32::MAX), None);
     assert!(rt; known(2) && known(5) && !known(6) && !known(255));
     assert!(rt;
-        known(261) && !known(262) && !known(279) && known(280) && known(296) && !known(297)
+        known(261) && !known(262) && !known(279) && known(280) && known(323) && !known(324)
     );
-    assert!(rt; known(327) && !known(256));
+    assert!(rt; known(325) && known(327) && !known(256) && !known(328));
 }
 
 #[test]

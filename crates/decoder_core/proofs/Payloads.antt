@@ -3,10 +3,11 @@ use Rattle.std.proofs.Common.{◌≡◌, ℕ, Bool, true, false, not, ◌&&◌, 
 use Rattle.std.proofs.lemmas.Bool.Decides.{nat_tests}
 use Rattle.gl_plain.specs.declared.numbers.TheConstants.{NOOP, SET_TOKEN, GEN_BUFFERS, BIND_BUFFER, BUFFER_DATA, BUFFER_SUB_DATA, DELETE_BUFFERS, VERTEX_ATTRIB_4F, VERTEX_ATTRIB_POINTER, ENABLE_VERTEX_ATTRIB_ARRAY, DISABLE_VERTEX_ATTRIB_ARRAY, SET_BUCKET_SIZE, SET_BUCKET_DATA, GET_BUCKET_START, GET_BUCKET_DATA, CREATE_SHADER, SHADER_SOURCE, COMPILE_SHADER, DELETE_SHADER, CREATE_PROGRAM, ATTACH_SHADER, DETACH_SHADER, BIND_ATTRIB_LOCATION, LINK_PROGRAM, VALIDATE_PROGRAM, USE_PROGRAM, DELETE_PROGRAM, UNIFORM}
 use Rattle.gl_plain.specs.declared.commands.Command.{Command}
-use Rattle.gl_plain.specs.declared.commands.Command.TheVariants.{Bucket, Object, Query}
+use Rattle.gl_plain.specs.declared.commands.Command.TheVariants.{Bucket, Object, Draw, Query}
 use Rattle.gl_plain.specs.declared.commands.BucketCommand.{BucketCommand}
 use Rattle.gl_plain.specs.declared.commands.DataWords.{DataWords}
 use Rattle.gl_plain.specs.declared.commands.ObjectCommand.{ObjectCommand}
+use Rattle.gl_plain.specs.declared.commands.DrawCommand.{DrawCommand}
 use Rattle.gl_plain.specs.declared.commands.QueryCommand.{QueryCommand}
 use Rattle.gl_plain.specs.declared.commands.Fetched.{Fetched}
 use Rattle.gl_plain.specs.Words.{data_at}
@@ -122,17 +123,18 @@ module _ (number : ℕ) (words payload : List ℕ) (long : length payload ≡ da
   IsBesideCommand (Bucket c) = IsBucketData c payload
   IsBesideCommand c = Unit {0}
 
-  family_data : (bucket : Option BucketCommand) (object : Option ObjectCommand) (query : Option QueryCommand) → ((c : BucketCommand) → bucket ≡ Some c → IsBucketData c payload)
-      → ((c : ObjectCommand) → object ≡ Some c → IsBesideOf (object_data_words c) payload) → (c : Command) → command_by bucket object query ≡ Some c → IsBesideCommand c
-  family_data (Some b) object query first there c is = let same : Bucket b ≡ c = cc in subst IsBesideCommand same (first b refl)
-  family_data None (Some o) query first there c is = let same : Object o ≡ c = cc in subst IsBesideCommand same (there o refl)
-  family_data None None (Some q) first there c is = let same : Query q ≡ c = cc in subst IsBesideCommand same tt
-  family_data None None None first there c is = cc
+  family_data : (bucket : Option BucketCommand) (object : Option ObjectCommand) (drawing : Option DrawCommand) (query : Option QueryCommand) → ((c : BucketCommand) → bucket ≡ Some c → IsBucketData c payload)
+      → ((c : ObjectCommand) → object ≡ Some c → IsBesideOf (object_data_words c) payload) → (c : Command) → command_by bucket object drawing query ≡ Some c → IsBesideCommand c
+  family_data (Some b) object drawing query first there c is = let same : Bucket b ≡ c = cc in subst IsBesideCommand same (first b refl)
+  family_data None (Some o) drawing query first there c is = let same : Object o ≡ c = cc in subst IsBesideCommand same (there o refl)
+  family_data None None (Some q) query first there c is = let same : Draw q ≡ c = cc in subst IsBesideCommand same tt
+  family_data None None None (Some q) first there c is = let same : Query q ≡ c = cc in subst IsBesideCommand same tt
+  family_data None None None None first there c is = cc
 
   spelled_data : (c : Command) → command_in number words ≡ Some c → IsBesideCommand c
   spelled_data =
       chosen IsBesideCommand (number == NOOP) _ _ (λ e. tt)
-      (chosen IsBesideCommand (number == SET_TOKEN) _ _ (λ e. tt) (family_data _ _ _ bucket_data object_data))
+      (chosen IsBesideCommand (number == SET_TOKEN) _ _ (λ e. tt) (family_data _ _ _ _ bucket_data object_data))
 
 -- of a command on a bucket
 pub readable_bucket : (f : Fetched) → IsReadable f → (c : BucketCommand) → command_of f ≡ Some (Bucket c) → IsBucketData c f.payload

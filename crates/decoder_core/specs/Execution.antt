@@ -20,7 +20,7 @@ use Rattle.decoder_core.specs.declared.tables.Tables.{Tables}
 -- the state that the service's tables are
 abbrev pub state_of : Tables → WireState
 state_of t = record {
-  es = record { surface = t.surface; buffers = tables t.buffers; attribs = t.attribs.attributes; programs = programs.tables t.programs; errors = t.errors };
+  es = record { surface = t.surface; buffers = tables t.buffers; attribs = t.attribs.attributes; programs = programs.tables t.programs; raster = t.raster.words; alignments = t.raster.alignments; errors = t.errors };
   covers = no_covers;
   buckets = t.buckets;
   token = t.token;

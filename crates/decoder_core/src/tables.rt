@@ -7,6 +7,7 @@ ghost use Rattle.gl_plain.specs.subjects.Buckets.{IsBucketData, breaks_bucket_ru
 use attrib_mgr::Attribs;
 use bucket_store::Buckets;
 use buffer_mgr::Buffers;
+use decode_draw::execute_draw;
 use decode_objects::execute_object;
 use gl_base::limits::{DATA_LIMIT, LAST_BUCKET, LAST_TOKEN};
 use gl_driver::Driver;
@@ -16,6 +17,7 @@ use gl_plain::{
 };
 use program_mgr::Programs;
 use std::alloc::Global;
+use svc_raster::Raster;
 
 /// The source of data in shared memory.
 const IN_MEMORY: u32 = 1;
@@ -31,6 +33,7 @@ pub struct Tables {
     buffers: Buffers,
     programs: Programs,
     attribs: Attribs,
+    raster: Raster,
     errors: Errors,
     buckets: Buckets,
     token: u32,
@@ -78,6 +81,7 @@ impl Tables {
             buffers: Buffers::new(alloc),
             programs: Programs::new(alloc),
             attribs: Attribs::new(),
+            raster: Raster::new(surface.0, surface.1),
             errors: Errors::new(),
             buckets: Buckets::new(alloc),
             token: 0,
@@ -221,6 +225,15 @@ impl Tables {
                     driver,
                 )
             }
+            Some(Command::Draw(drawing)) => execute_draw(
+                &self.buffers,
+                &self.programs,
+                &self.attribs,
+                &mut self.raster,
+                &mut self.errors,
+                drawing,
+                driver,
+            ),
             None => Err(ExecStop::Bad(Malformed::InvalidArguments)),
         }
     }

@@ -3,3 +3,4 @@ pub mod Names
 pub mod Lent
 pub mod ErrorNames
 pub mod Rects
+pub mod Floats

@@ -112,3 +112,26 @@ pub const ONE: u32 = 0x3F80_0000;
 
 /// The float -0, by its pattern of bits (IEEE 754, binary32).
 pub const NEGATIVE_ZERO: u32 = 0x8000_0000;
+
+/// The float infinity, by its pattern of bits; the patterns above it are those that are not numbers, and those of negative floats (IEEE 754,
+/// binary32).
+pub const INFINITY: u32 = 0x7F80_0000;
+
+/// Triangles of which each shares the first vertex, and one with the one before (section 2.6.1). It is the last of the modes, which begin with
+/// POINTS, 0.
+pub const TRIANGLE_FAN: GlEnum = GlEnum(6);
+
+/// The status of a framebuffer that can be drawn to (section 4.4.5).
+pub const FRAMEBUFFER_COMPLETE: u32 = 0x8CD5;
+
+/// The bit of Clear for depths (section 4.2.3).
+pub const DEPTH_BUFFER_BIT: u32 = 0x0100;
+
+/// The bit of Clear for stencil values (section 4.2.3).
+pub const STENCIL_BUFFER_BIT: u32 = 0x0400;
+
+/// The bit of Clear for colours (section 4.2.3).
+pub const COLOR_BUFFER_BIT: u32 = 0x4000;
+
+/// All bits that Clear takes (section 4.2.3).
+pub const CLEAR_BITS: u32 = 0x4500;

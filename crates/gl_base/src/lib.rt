@@ -8,6 +8,7 @@ mod gl_enum;
 pub mod limits;
 mod names;
 mod number_map;
+pub mod raster_enums;
 mod rect;
 
 pub use error_names::error_name;

@@ -53,3 +53,10 @@ pub const TOTAL_LIMIT: u64 = 268_435_456;
 
 /// The width and the height of the default framebuffer where an input does not say them.
 pub const DEFAULT_SURFACE: (u32, u32) = (64, 64);
+
+/// The greatest width and height of a viewport, a default framebuffer, a texture or a renderbuffer (MAX_VIEWPORT_DIMS, MAX_TEXTURE_SIZE and
+/// MAX_RENDERBUFFER_SIZE are 2048).
+pub const SIDE_LIMIT: u32 = 2048;
+
+/// The greatest value of a stencil buffer, which has 8 bits (STENCIL_BITS).
+pub const LAST_STENCIL: u32 = 255;

@@ -2,9 +2,10 @@
 ghost use Rattle.std.specs.Prelude.{◌≡◌, IfOk};
 ghost use Rattle.gl_plain.specs.driver.Allowed.{IsAllowed};
 ghost use Rattle.gl_plain.specs.driver.Answers.{stored_answer};
-ghost use Rattle.gl_plain.specs.declared.driver_calls.DriverCall.TheVariants.{Object, Program};
+ghost use Rattle.gl_plain.specs.declared.driver_calls.DriverCall.TheVariants.{Object, Program, Draw};
 ghost use Rattle.gl_plain.specs.declared.driver_calls.ObjectDriver.TheVariants.{GenBuffer, BindBuffer, BufferData, BufferSubData, DeleteBuffer, VertexAttrib4, VertexAttribPointer, SetArray};
 ghost use Rattle.gl_plain.specs.declared.driver_calls.ProgramDriver.TheVariants as programs;
+ghost use Rattle.gl_plain.specs.declared.driver_calls.DrawDriver.TheVariants as drawing;
 ghost use Rattle.gl_plain.specs.declared.driver_calls.Answer.TheVariants.{Name, Compile, Link, Validate};
 ghost use Rattle.gl_driver.specs.History.{History, Served, Caused, Rose, entered, done};
 
@@ -173,6 +174,45 @@ pub trait Driver {
     ) -> Result<(), DriverStop>
         requires { IsAllowed (history self.old).state (Program (programs.Uniform location kind count bytes.now)) }
         ensures served { Served history grown self.old self.new (entered result (Program (programs.Uniform location kind count bytes.now)) done) }
+        ensures cause { Caused (history self.old) (history self.new) result };
+
+    /// Sets words of the fixed state: those of the command of this number, as they are kept (from Enable to Viewport, but for PixelStorei).
+    fn set_raster(&mut self, number: u32, words: &[u32]) -> Result<(), DriverStop>
+        requires { IsAllowed (history self.old).state (Draw (drawing.SetRaster number words.now)) }
+        ensures served { Served history grown self.old self.new (entered result (Draw (drawing.SetRaster number words.now)) done) }
+        ensures cause { Caused (history self.old) (history self.new) result };
+
+    /// Clears the images of the default framebuffer that the mask names.
+    fn clear(&mut self, mask: u32) -> Result<(), DriverStop>
+        requires { IsAllowed (history self.old).state (Draw (drawing.Clear mask)) }
+        ensures served { Served history grown self.old self.new (entered result (Draw (drawing.Clear mask)) done) }
+        ensures cause { Caused (history self.old) (history self.new) result };
+
+    /// Draws so many elements of the arrays, from the first on. The mask has a bit for each texture unit that is sampled and whose texture is
+    /// not complete, and reads as black.
+    fn draw_arrays(
+        &mut self,
+        mode: GlEnum,
+        first: i32,
+        count: i32,
+        black: u32,
+    ) -> Result<(), DriverStop>
+        requires { IsAllowed (history self.old).state (Draw (drawing.DrawArrays mode first count black)) }
+        ensures served { Served history grown self.old self.new (entered result (Draw (drawing.DrawArrays mode first count black)) done) }
+        ensures cause { Caused (history self.old) (history self.new) result };
+
+    /// Draws the elements that so many indices name, which lie in the buffer that ELEMENT_ARRAY_BUFFER binds, from this byte on. The mask is
+    /// that of `draw_arrays`.
+    fn draw_elements(
+        &mut self,
+        mode: GlEnum,
+        count: i32,
+        kind: GlEnum,
+        offset: u32,
+        black: u32,
+    ) -> Result<(), DriverStop>
+        requires { IsAllowed (history self.old).state (Draw (drawing.DrawElements mode count kind offset black)) }
+        ensures served { Served history grown self.old self.new (entered result (Draw (drawing.DrawElements mode count kind offset black)) done) }
         ensures cause { Caused (history self.old) (history self.new) result };
 
     ghost grown_itself: { (a : Self) → grown a a };

@@ -26,7 +26,7 @@ index_within index allowed = grind arith
 
 -- the tables with other attributes
 with_attributes : (s : EsState) (t : DriverTables) (x y : VertexAttributes) → TablesAgree s t → x ≡ y → TablesAgree (record s { attribs = x }) (record t { attribs = y })
-with_attributes s t x y a same = record { surface = a.surface; buffers = a.buffers; attribs = same; programs = a.programs }
+with_attributes s t x y a same = record { surface = a.surface; buffers = a.buffers; attribs = same; programs = a.programs; raster = a.raster }
 
 module _ (s : EsState) (d : DriverState) (a : TablesAgree s d.tables) (index : ℕ) (payload : List ℕ) where
   -- VertexAttrib4f

@@ -32,7 +32,7 @@ live_in Buffers t = t.buffers.names
 
 -- a new name
 pub agree_gen : (space : Space) (s : EsState) (t : DriverTables) → TablesAgree s t → (id n : ℕ) → map.get (names_in space s) id ≡ None → id ≢ 0 → IsFresh (given_in space t.given) n → TablesAgree (with_name space id n s) (with_given space n t)
-agree_gen Buffers s t a id n free positive fresh = record { surface = a.surface; buffers = agree_named s.buffers t.buffers t.given.buffers a.buffers id n free positive fresh; attribs = a.attribs; programs = a.programs }
+agree_gen Buffers s t a id n free positive fresh = record { surface = a.surface; buffers = agree_named s.buffers t.buffers t.given.buffers a.buffers id n free positive fresh; attribs = a.attribs; programs = a.programs; raster = a.raster }
 
 -- it is in use
 pub known_name : (space : Space) (s : EsState) (id n : ℕ) → map.get (names_in space (with_name space id n s)) id ≡ Some (new_name n)

@@ -40,7 +40,7 @@ use Rattle.gl_laws.proofs.Binds.{IsBind, agree_gen, some_is, bind_may, bind_leav
 
 -- the tables with other buffers
 with_buffers : (s : EsState) (t : DriverTables) (b c : BufferTables) → TablesAgree s t → BuffersAgree b c t.given.buffers → TablesAgree (record s { buffers = b }) (record t { buffers = c })
-with_buffers s t b c a agree = record { surface = a.surface; buffers = agree; attribs = a.attribs; programs = a.programs }
+with_buffers s t b c a agree = record { surface = a.surface; buffers = agree; attribs = a.attribs; programs = a.programs; raster = a.raster }
 
 -- GenBuffers
 module _ (s : EsState) (d : DriverState) (a : TablesAgree s d.tables) (id : ℕ) (payload : List ℕ) (fair : gen_buffers_is_bad s.buffers.names id ≡ false) where
@@ -131,7 +131,7 @@ module _ (s : EsState) (d : DriverState) (a : TablesAgree s d.tables) (target : 
     contents = refl;
     records = refl;
   }
-  data_by o Oom l = record { asked = refl; agrees = record { surface = a.surface; buffers = a.buffers; attribs = a.attribs; programs = a.programs }; contents = refl; records = refl }
+  data_by o Oom l = record { asked = refl; agrees = record { surface = a.surface; buffers = a.buffers; attribs = a.attribs; programs = a.programs; raster = a.raster }; contents = refl; records = refl }
   data_by o answer l = absurd l.0.answered
 
   pub buffer_data_leaves : OwnLeaves s d (BufferData target size usage words) payload
@@ -196,6 +196,7 @@ module _ (s : EsState) (d : DriverState) (a : TablesAgree s d.tables) (id : ℕ)
           buffers = agree_deleted s.buffers d.tables.buffers d.tables.given.buffers a.buffers id x e;
           attribs = ap (λ (t : VertexAttributes). all_outside t x.number) a.attribs;
           programs = a.programs;
+          raster = a.raster;
         };
         contents = refl;
         records = refl;

@@ -1,13 +1,13 @@
 -- The laws of a command.
-use Rattle.std.proofs.Common.{◌≡◌, ℕ, true, false, List, [], ◌∷◌, ◌++◌, Option, None, Some, refl, sym, ap, ◌∙◌, subst}
+use Rattle.std.proofs.Common.{◌≡◌, ℕ, false, List, [], ◌∷◌, ◌++◌, Option, None, Some, refl, sym, ap, ◌∙◌, subst}
 use Rattle.gl_plain.specs.declared.calls.Reply.{Reply}
 use Rattle.gl_plain.specs.declared.errors.GlError.{GlError}
 use Rattle.gl_plain.specs.declared.commands.Command.{Command}
-use Rattle.gl_plain.specs.declared.commands.Command.TheVariants.{Noop, SetToken, Bucket, Object, Query}
+use Rattle.gl_plain.specs.declared.commands.Command.TheVariants.{Noop, SetToken, Bucket, Object, Draw, Query}
 use Rattle.gl_plain.specs.declared.commands.QueryCommand.TheVariants.{GetError}
 use Rattle.gl_plain.specs.declared.driver_calls.DriverCall.{DriverCall}
 use Rattle.gl_plain.specs.declared.driver_calls.DriverEntry.{DriverEntry}
-use Rattle.gl_plain.specs.subjects.Images.{Contents, ScreenImage, is_defined, read_contents}
+use Rattle.gl_plain.specs.subjects.Images.{Contents, IsScreenWritten, read_contents}
 use Rattle.gl_plain.specs.Oracle.{Oracle, default_answers}
 use Rattle.gl_plain.specs.State.{WireState, DriverState}
 use Rattle.gl_plain.specs.driver.Allowed.{IsAllowed}
@@ -22,6 +22,7 @@ use Rattle.gl_plain.specs.Lawful.{Keeps}
 use Rattle.gl_laws.specs.Laws.{MayGoOn, Left, Leaves}
 use Rattle.gl_laws.proofs.Lists.{not_nil, no_entry}
 use Rattle.gl_laws.proofs.Objects.{object_may, object_leaves}
+use Rattle.gl_laws.proofs.Draws.{draw_may, draw_leaves}
 
 -- what all calls of a command leave, by its refusal
 record LeftBy (r : Option GlError) (w : WireState) (d : DriverState) (c : Command) (payload : List ℕ) (before after : Oracle) (es : List DriverEntry) : Type 0 where
@@ -42,6 +43,7 @@ module _ (w : WireState) (d : DriverState) (a : Agrees w d) where
   own_may (SetToken token) payload fair allowed given o es next more l h = no_call es next more d h
   own_may (Bucket c) payload fair allowed given o es next more l h = no_call es next more d h
   own_may (Object c) payload fair allowed given o es next more l h = object_may w.es d a.tables c payload fair allowed given o es next more l h
+  own_may (Draw c) payload fair allowed given o es next more l h = draw_may w.es d a.tables a.images.screen c allowed es next more h
   own_may (Query c) payload fair allowed given o es next more l h = no_call es next more d h
 
   -- the zeroings are none, as no command needs an image written
@@ -50,6 +52,7 @@ module _ (w : WireState) (d : DriverState) (a : Agrees w d) where
   no_zeroings (SetToken token) payload o = refl
   no_zeroings (Bucket c) payload o = refl
   no_zeroings (Object c) payload o = refl
+  no_zeroings (Draw c) payload o = refl
   no_zeroings (Query c) payload o = refl
 
   may_by : (c : Command) (payload : List ℕ) → is_bad w c ≡ false → IsCommandData c payload → (r : Option GlError) → command_refusal w.es c payload ≡ r → (o : Oracle) (es : List DriverEntry) (next : DriverCall) (more : List DriverCall) → IsLegal d es
@@ -75,18 +78,21 @@ module _ (w : WireState) (d : DriverState) (a : Agrees w d) where
       let left = object_leaves w.es d a.tables c payload fair allowed o es l h in
       record {
         asked = left.asked;
-        agrees = record { tables = left.agrees; images = record { covers = elim [ ]; screen = subst (λ (k : Contents). (i : ScreenImage) (x y : ℕ) → is_defined (k.screen i x y) ≡ true) (sym left.contents) a.images.screen } };
+        agrees = record { tables = left.agrees; images = record { covers = elim [ ]; screen = subst (λ (k : Contents). IsScreenWritten k.screen) (sym left.contents) a.images.screen } };
         contents = ap read_contents left.contents;
         records = left.records;
       }
+  own_leaves (Draw c) payload fair allowed o es l h =
+      let left = draw_leaves w.es d a.tables a.images.screen c o es h in
+      record { asked = left.asked; agrees = record { tables = left.agrees; images = record { covers = elim [ ]; screen = left.written } }; contents = left.contents; records = left.records }
   own_leaves (Query GetError) payload fair allowed o es l h =
       left_alone None (Query GetError) payload
-      (λ o. record { asked = refl; agrees = record { tables = record { surface = a.tables.surface; buffers = a.tables.buffers; attribs = a.tables.attribs; programs = a.tables.programs }; images = record { covers = elim [ ]; screen = a.images.screen } }; contents = refl; records = refl }) o es h
+      (λ o. record { asked = refl; agrees = record { tables = record { surface = a.tables.surface; buffers = a.tables.buffers; attribs = a.tables.attribs; programs = a.tables.programs; raster = a.tables.raster }; images = record { covers = elim [ ]; screen = a.images.screen } }; contents = refl; records = refl }) o es h
 
   left_by : (c : Command) (payload : List ℕ) → is_bad w c ≡ false → (r : Option GlError) → command_refusal w.es c payload ≡ r → (o : Oracle) (es : List DriverEntry) → IsLegal d es → calls_in es ≡ calls_by r w c payload (told es o) → LeftBy r w d c payload (told es o) o es
   left_by c payload fair (Some e) is o es l h =
       left_alone (Some e) c payload
-      (λ o. record { asked = refl; agrees = record { tables = record { surface = a.tables.surface; buffers = a.tables.buffers; attribs = a.tables.attribs; programs = a.tables.programs }; images = record { covers = elim [ ]; screen = a.images.screen } }; contents = refl; records = refl }) o es h
+      (λ o. record { asked = refl; agrees = record { tables = record { surface = a.tables.surface; buffers = a.tables.buffers; attribs = a.tables.attribs; programs = a.tables.programs; raster = a.tables.raster }; images = record { covers = elim [ ]; screen = a.images.screen } }; contents = refl; records = refl }) o es h
   left_by c payload fair None is o es l h = own_leaves c payload fair is o es l h
 
   -- what a command leaves

@@ -11,5 +11,9 @@ pub mod Programs
 pub mod ProgramsInUse
 pub mod Uniforms
 pub mod Objects
+pub mod Raster
+pub mod Draws
 pub mod Commands
 pub mod Runs
+pub mod Fronts
+pub mod CutRuns

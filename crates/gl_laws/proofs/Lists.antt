@@ -52,7 +52,7 @@ pub legal_split : (d : DriverState) (es fs : List DriverEntry) → IsLegal d (es
 legal_split d [] fs l = (tt, l)
 legal_split d (e ∷ es) fs l = let p = legal_split (entry_after d e) es fs l.1 in ((l.0, p.0), p.1)
 
-append_records : (a b c : List Record) → a ++ (b ++ c) ≡ (a ++ b) ++ c
+pub append_records : (a b c : List Record) → a ++ (b ++ c) ≡ (a ++ b) ++ c
 append_records [] b c = refl
 append_records (x ∷ a) b c = ap (λ (r : List Record). x ∷ r) (append_records a b c)
 

@@ -33,7 +33,7 @@ use Rattle.gl_laws.proofs.ProgramsAgree.{agree_shader, agree_program, agree_sour
 
 -- the tables with other programs
 pub with_other_programs : (s : EsState) (t : DriverTables) (x y : ProgramTables) → TablesAgree s t → ProgramsAgree x y t.given.programs → TablesAgree (record s { programs = x }) (programs_in t y)
-with_other_programs s t x y a agree = record { surface = a.surface; buffers = a.buffers; attribs = a.attribs; programs = agree }
+with_other_programs s t x y a agree = record { surface = a.surface; buffers = a.buffers; attribs = a.attribs; programs = agree; raster = a.raster }
 
 -- CreateShader and CreateProgram
 
@@ -57,6 +57,7 @@ module _ (s : EsState) (d : DriverState) (a : TablesAgree s d.tables) (id : ℕ)
       buffers = a.buffers;
       attribs = a.attribs;
       programs = agree_shader s.programs d.tables.programs d.tables.given.programs a.programs id n kind (free s.programs id fair) (positive s.programs id fair) l.0.answered;
+      raster = a.raster;
     };
     contents = refl;
     records = refl;
@@ -78,6 +79,7 @@ module _ (s : EsState) (d : DriverState) (a : TablesAgree s d.tables) (id : ℕ)
       buffers = a.buffers;
       attribs = a.attribs;
       programs = agree_program s.programs d.tables.programs d.tables.given.programs a.programs id n (free s.programs id fair) (positive s.programs id fair) l.0.answered;
+      raster = a.raster;
     };
     contents = refl;
     records = refl;

@@ -20,7 +20,7 @@ use Rattle.gl_laws.proofs.Lists.{legal_split, records-append}
 use Rattle.gl_laws.proofs.Commands.{leaves_it}
 
 -- what the part of a command leaves, if one is spelled, by what it means
-record PartLeft (m : Meaning WireState) (w : WireState) (d : DriverState) (c : Option Command) (payload : List ℕ) (before after : Oracle) (es : List DriverEntry) : Type 0 where
+pub record PartLeft (m : Meaning WireState) (w : WireState) (d : DriverState) (c : Option Command) (payload : List ℕ) (before after : Oracle) (es : List DriverEntry) : Type 0 where
   pub asked : (m.step before).oracle ≡ after
   pub agrees : Agrees (m.step before).state (state_after d es)
   pub contents : read_contents (state_after d es).contents ≡ contents_behind w c payload before (read_contents d.contents)
@@ -33,7 +33,7 @@ left_if true w d c payload a fair o es l h = absurd (cc)
 left_if false w d c payload a fair o es l h =
     let left = leaves_it w d a c (given_to w c payload) fair o es l h in record { asked = left.asked; agrees = left.agrees; contents = left.contents; records = left.records }
 
-part_left : (w : WireState) (d : DriverState) (c : Option Command) (payload : List ℕ) → Agrees w d → (meaning_by w c payload).bad ≡ false → (o : Oracle) (es : List DriverEntry) → IsLegal d es → calls_in es ≡ (meaning_by w c payload).calls (told es o)
+pub part_left : (w : WireState) (d : DriverState) (c : Option Command) (payload : List ℕ) → Agrees w d → (meaning_by w c payload).bad ≡ false → (o : Oracle) (es : List DriverEntry) → IsLegal d es → calls_in es ≡ (meaning_by w c payload).calls (told es o)
     → PartLeft (meaning_by w c payload) w d c payload (told es o) o es
 part_left w d None payload a fair o es l h = absurd (cc)
 part_left w d (Some c) payload a fair o es l h = left_if (breaks_bucket_rule w.buckets (data_words c)) w d c payload a fair o es l h
@@ -42,7 +42,7 @@ abbrev HasParts : Bool → WireState → Fetched → List Fetched → Oracle →
 HasParts bad w f fs o entries = MatchBool bad (entries ≡ [])
     ((part rest : List DriverEntry) × (entries ≡ part ++ rest) × IsPartOf (meaning_of w f).calls o part × AreParts ((meaning_of w f).step o).state fs ((meaning_of w f).step o).oracle rest)
 
-abbrev records_by : Bool → WireState → Contents → Fetched → List Fetched → Oracle → List Record
+abbrev pub records_by : Bool → WireState → Contents → Fetched → List Fetched → Oracle → List Record
 records_by bad w k f fs o = if bad then [] else records_made w (command_of f) f.payload o k ++ run_records ((meaning_of w f).step o).state (contents_behind w (command_of f) f.payload o k) fs ((meaning_of w f).step o).oracle
 
 abbrev RunLaw : List Fetched → Type 0

@@ -234,7 +234,7 @@ module _ (f : Executable → Executable) where
 
 -- the tables with other programs
 with_programs : (s : EsState) (t : DriverTables) (x y : ProgramTables) → TablesAgree s t → ProgramsAgree x y t.given.programs → TablesAgree (record s { programs = x }) (record t { programs = y })
-with_programs s t x y a agree = record { surface = a.surface; buffers = a.buffers; attribs = a.attribs; programs = agree }
+with_programs s t x y a agree = record { surface = a.surface; buffers = a.buffers; attribs = a.attribs; programs = agree; raster = a.raster }
 
 -- the call, where the location is not -1
 calls_by : (P : List DriverCall → Type 0) (location : ℤ) (kind : ℕ) (count : ℤ) (bytes : List ℕ) → (is_nowhere location ≡ true → P []) → (is_nowhere location ≡ false → P (driver.Program (calls.Uniform location kind (pos (given_count count)) bytes) ∷ []))

@@ -47,6 +47,7 @@ opening_agrees surface = record {
       element = refl;
     };
     attribs = refl;
+    raster = refl;
     programs = record {
       names = no_names;
       ids = no_owners;

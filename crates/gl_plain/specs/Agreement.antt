@@ -1,9 +1,9 @@
 -- The service's tables beside a driver's state.
-use Rattle.std.specs.Prelude.{◌≡◌, ℕ, true}
+use Rattle.std.specs.Prelude.{◌≡◌, ℕ}
 use Rattle.gl_base.specs.declared.rect.Rect.{Rect}
 use Rattle.gl_plain.specs.subjects.Buffers.{BuffersAgree}
 use Rattle.gl_plain.specs.subjects.Programs.{ProgramsAgree}
-use Rattle.gl_plain.specs.subjects.Images.{ImagePlace, ScreenImage, Covers, Contents, Pixel, is_defined}
+use Rattle.gl_plain.specs.subjects.Images.{ImagePlace, Covers, Contents, Pixel, IsScreenWritten}
 use Rattle.gl_plain.specs.State.{EsState, WireState, DriverTables, DriverState}
 
 -- the rectangle is just the places of the image that were written
@@ -16,11 +16,12 @@ pub record TablesAgree (s : EsState) (t : DriverTables) : Type 0 where
   pub buffers : BuffersAgree s.buffers t.buffers t.given.buffers
   pub attribs : s.attribs ≡ t.attribs
   pub programs : ProgramsAgree s.programs t.programs t.given.programs
+  pub raster : s.raster ≡ t.raster
 
 -- each written rectangle is that of the driver's image, and the default framebuffer is written
 pub record ImagesAgree (s : EsState) (f : Covers) (k : Contents) : Type 0 where
   pub covers : (i : ImagePlace) → IsCovered s (f i) i (k.images i)
-  pub screen : (i : ScreenImage) (x y : ℕ) → is_defined (k.screen i x y) ≡ true
+  pub screen : IsScreenWritten k.screen
 
 -- the state of the service and that of the driver agree
 pub record Agrees (w : WireState) (d : DriverState) : Type 0 where

@@ -12,7 +12,7 @@ use Rattle.gl_plain.specs.declared.programs.LinkAnswer.{LinkAnswer}
 use Rattle.gl_plain.specs.declared.programs.Uniform.{Uniform}
 use Rattle.gl_plain.specs.declared.programs.Verdict.{Verdict}
 use Rattle.gl_plain.specs.declared.common_lines.CommonLine.{CommonLine}
-use Rattle.gl_plain.specs.declared.common_lines.CommonLine.TheVariants.{Ring, Oom, Lost, Compile, Link, OfAttribute, OfUniform, Validate}
+use Rattle.gl_plain.specs.declared.common_lines.CommonLine.TheVariants.{Surface, Ring, Oom, Lost, Compile, Link, OfAttribute, OfUniform, Validate}
 use Rattle.gl_plain.specs.declared.common_lines.AnswersDraft.{AnswersDraft}
 use Rattle.gl_plain.specs.subjects.Links.{is_log, is_sound_link, may_follow, may_follow_uniforms}
 use Rattle.gl_plain.specs.Oracle.{compile_in, link_in, validate_in}
@@ -22,6 +22,14 @@ use Rattle.gl_plain.specs.Fields.{◌>>=◌, space, cut_at, number_in, bytes_in}
 -- the bytes are those of this word
 abbrev pub is_word : List ℕ → List ℕ → Bool
 is_word word bytes = pointwise nat_eq bytes word
+
+-- `surface W H`, after its word
+unfoldable pub surface_in : List ℕ → Option CommonLine
+surface_in text = do
+  parts ← cut_at space text
+  width ← number_in parts.0
+  height ← number_in parts.1
+  Some (Surface width height)
 
 -- `ring N`, after its word
 unfoldable pub ring_in : List ℕ → Option CommonLine
@@ -171,7 +179,8 @@ answer_by_word word rest =
 -- a line by its word, and by what follows the space behind the word
 unfoldable pub common_by_word : List ℕ → List ℕ → Option CommonLine
 common_by_word word rest =
-    if is_word (codes "ring") word then ring_in rest
+    if is_word (codes "surface") word then surface_in rest
+    else if is_word (codes "ring") word then ring_in rest
     else if is_word (codes "oom") word then oom_in rest
     else if is_word (codes "lost") word then lost_in rest
     else answer_by_word word rest

@@ -9,6 +9,7 @@ pub mod Oracle
 pub mod Spaces
 pub mod Outcome
 pub mod object
+pub mod draw
 pub mod query
 pub mod driver
 pub mod Commands

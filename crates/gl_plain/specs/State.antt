@@ -9,7 +9,11 @@ use Rattle.gl_plain.specs.subjects.Buffers.{BufferTables, no_buffers}
 use Rattle.gl_plain.specs.subjects.Attributes.{no_arrays}
 use Rattle.gl_plain.specs.subjects.Programs.{ProgramTables, no_programs}
 use Rattle.gl_plain.specs.subjects.Buckets.{Buckets, empty_buckets}
+use Rattle.gl_plain.specs.declared.raster.RasterWords.{RasterWords}
+use Rattle.gl_plain.specs.declared.raster.Alignments.{Alignments}
 use Rattle.gl_plain.specs.subjects.Images.{Contents, Covers, no_covers, opening_contents}
+use Rattle.gl_plain.specs.subjects.Raster.{opening_raster, opening_alignments}
+use Rattle.gl_plain.specs.subjects.Draws.{Sources}
 
 -- the width and the height of the default framebuffer
 abbrev pub Surface : Type 0
@@ -21,6 +25,8 @@ pub record EsState : Type 0 where
   pub buffers : BufferTables
   pub attribs : VertexAttributes
   pub programs : ProgramTables
+  pub raster : RasterWords
+  pub alignments : Alignments
   pub errors : Errors
 
 -- the state of the service: that of OpenGL ES, the written rectangles, the buckets, and the last token
@@ -35,12 +41,13 @@ pub record NamesGiven : Type 0 where
   pub buffers : set.FinSet nat_cmp
   pub programs : set.FinSet nat_cmp
 
--- the tables of a driver, which keeps no errors
+-- the tables of a driver, which keeps no errors and no alignments
 pub record DriverTables : Type 0 where
   pub surface : Surface
   pub buffers : BufferTables
   pub attribs : VertexAttributes
   pub programs : ProgramTables
+  pub raster : RasterWords
   pub given : NamesGiven
 
 -- the state of a driver: its tables, and the contents of all images
@@ -50,7 +57,15 @@ pub record DriverState : Type 0 where
 
 -- the opening state, for a default framebuffer of these sides (tables 6.2 to 6.19)
 abbrev pub opening : Surface → EsState
-opening surface = record { surface = surface; buffers = no_buffers; attribs = no_arrays; programs = no_programs; errors = no_errors }
+opening surface = record {
+  surface = surface;
+  buffers = no_buffers;
+  attribs = no_arrays;
+  programs = no_programs;
+  raster = opening_raster surface.0 surface.1;
+  alignments = opening_alignments;
+  errors = no_errors;
+}
 
 -- the opening state of the service
 abbrev pub opening_wire : Surface → WireState
@@ -63,9 +78,18 @@ opening_tables surface = record {
   buffers = no_buffers;
   attribs = no_arrays;
   programs = no_programs;
+  raster = opening_raster surface.0 surface.1;
   given = record { buffers = set.empty; programs = set.empty };
 }
 
 -- the opening state of a driver
 abbrev pub opening_driver : Surface → DriverState
 opening_driver surface = record { tables = opening_tables surface; contents = opening_contents }
+
+-- what a draw reads of the state of OpenGL ES
+abbrev pub sources_of : EsState → Sources
+sources_of s = record { buffers = s.buffers.objects; element = s.buffers.element; attribs = s.attribs; executable = s.programs.installed }
+
+-- what a draw reads of a driver's tables
+abbrev pub sources_in : DriverTables → Sources
+sources_in t = record { buffers = t.buffers.objects; element = t.buffers.element; attribs = t.attribs; executable = t.programs.installed }

@@ -3,13 +3,13 @@ use Rattle.std.specs.Prelude.{ℕ, nat_lt, Bool, false, List, [], ◌++◌, Opti
 use Rattle.gl_base.specs.declared.limits.TheConstants.{LAST_TOKEN}
 use Rattle.gl_plain.specs.declared.errors.GlError.{GlError}
 use Rattle.gl_plain.specs.declared.commands.Command.{Command}
-use Rattle.gl_plain.specs.declared.commands.Command.TheVariants.{Noop, SetToken, Bucket, Object, Query}
+use Rattle.gl_plain.specs.declared.commands.Command.TheVariants.{Noop, SetToken, Bucket, Object, Draw, Query}
 use Rattle.gl_plain.specs.declared.commands.DataWords.{DataWords}
 use Rattle.gl_plain.specs.declared.driver_calls.DriverCall.{DriverCall}
 use Rattle.gl_plain.specs.subjects.Images.{ImagePlace}
 use Rattle.gl_plain.specs.subjects.Buckets.{bucket_command_is_bad, IsBucketData, buckets_after, bucket_reply, data_given}
 use Rattle.gl_plain.specs.Oracle.{Oracle}
-use Rattle.gl_plain.specs.State.{EsState, WireState}
+use Rattle.gl_plain.specs.State.{EsState, WireState, sources_of}
 use Rattle.gl_plain.specs.Outcome.{Outcome, leaves, with_error}
 use Rattle.gl_plain.specs.Covers.{all_filled, zeroings}
 use Rattle.gl_plain.specs.object.Commands.{object_data_words}
@@ -17,6 +17,9 @@ use Rattle.gl_plain.specs.object.Arguments.{object_is_bad, IsObjectData}
 use Rattle.gl_plain.specs.object.Refusal.{object_command_refusal}
 use Rattle.gl_plain.specs.object.Step.{object_step}
 use Rattle.gl_plain.specs.object.Calls.{own_object_calls}
+use Rattle.gl_plain.specs.draw.Refusal.{draw_command_refusal}
+use Rattle.gl_plain.specs.draw.Step.{draw_effect}
+use Rattle.gl_plain.specs.draw.Calls.{own_draw_calls}
 use Rattle.gl_plain.specs.query.Step.{query_step}
 
 -- an argument rule of the command is broken, other than those on data in a bucket; a token has 31 bits
@@ -25,6 +28,7 @@ is_bad w Noop = false
 is_bad w (SetToken token) = nat_lt LAST_TOKEN token
 is_bad w (Bucket c) = bucket_command_is_bad w.buckets c
 is_bad w (Object c) = object_is_bad w.es c
+is_bad w (Draw c) = false
 is_bad w (Query c) = false
 
 -- the words of a command's data, if it may have data in a bucket
@@ -33,6 +37,7 @@ data_words Noop = None
 data_words (SetToken token) = None
 data_words (Bucket c) = None
 data_words (Object c) = object_data_words c
+data_words (Draw c) = None
 data_words (Query c) = None
 
 -- the data of a command: the bytes of its bucket, or those that come beside it
@@ -45,6 +50,7 @@ IsCommandData Noop payload = Unit {0}
 IsCommandData (SetToken token) payload = Unit {0}
 IsCommandData (Bucket c) payload = IsBucketData c payload
 IsCommandData (Object c) payload = IsObjectData c payload
+IsCommandData (Draw c) payload = Unit {0}
 IsCommandData (Query c) payload = Unit {0}
 
 -- the code that a command with its data is refused with, if any
@@ -53,6 +59,7 @@ command_refusal s Noop payload = None
 command_refusal s (SetToken token) payload = None
 command_refusal s (Bucket c) payload = None
 command_refusal s (Object c) payload = object_command_refusal s c payload
+command_refusal s (Draw c) payload = draw_command_refusal (sources_of s) c
 command_refusal s (Query c) payload = None
 
 -- the images that a command needs written whole before its own driver call, in order; no command that is built so far needs one
@@ -61,6 +68,7 @@ whole_first w Noop = []
 whole_first w (SetToken token) = []
 whole_first w (Bucket c) = []
 whole_first w (Object c) = []
+whole_first w (Draw c) = []
 whole_first w (Query c) = []
 
 -- the state behind the zeroings of a command
@@ -77,6 +85,7 @@ own_step w Noop payload o = leaves w o
 own_step w (SetToken token) payload o = leaves (record w { token = token }) o
 own_step w (Bucket c) payload o = record { state = record w { buckets = buckets_after w.buckets c payload }; oracle = o; reply = bucket_reply w.buckets c }
 own_step w (Object c) payload o = on_wire w (object_step w.es c payload o)
+own_step w (Draw c) payload o = leaves (record w { es = draw_effect w.es c }) o
 own_step w (Query c) payload o = on_wire w (query_step w.es c o)
 
 -- a refused command records its code, and does nothing else (section 2.5)
@@ -94,6 +103,7 @@ own_calls w Noop payload o = []
 own_calls w (SetToken token) payload o = []
 own_calls w (Bucket c) payload o = []
 own_calls w (Object c) payload o = own_object_calls w.es c payload o
+own_calls w (Draw c) payload o = own_draw_calls (sources_of w.es) c
 own_calls w (Query c) payload o = []
 
 -- a refused command makes no driver call; any other makes its zeroings, and then its own

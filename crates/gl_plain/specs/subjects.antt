@@ -8,3 +8,6 @@ pub mod Programs
 pub mod Uniforms
 pub mod Buckets
 pub mod Images
+pub mod Raster
+pub mod Draws
+pub mod Clears

@@ -1,5 +1,5 @@
 //! The vertex attributes (OpenGL ES 2.0.25, sections 2.7 and 2.8).
-ghost use Rattle.std.specs.Prelude.{◌≡◌, ◌≤◌};
+ghost use Rattle.std.specs.Prelude.{◌≡◌, ◌≤◌, ◌+◌, length};
 ghost use Rattle.gl_base.specs.declared.limits.TheConstants.{LAST_ATTRIBUTE};
 ghost use Rattle.gl_plain.specs.subjects.Attributes.{all_outside, attribute, no_arrays, outside, set_array_effect, vertex_attrib_4f_effect, vertex_attrib_pointer_effect};
 
@@ -87,6 +87,14 @@ impl VertexAttributes {
         ensures { result ≡ attribute self.now index }
     {
         self.attributes[index as usize]
+    }
+
+    /// All attributes, by their index.
+    pub fn all(&self) -> &[VertexAttribute; 16]
+        ensures value { result.now ≡ self.now.attributes }
+        ensures count { length result.now ≡ LAST_ATTRIBUTE + 1 }
+    {
+        &self.attributes
     }
 
     /// Enables the array of an index, or disables it.

@@ -1,6 +1,6 @@
 //! The calls of OpenGL ES, and their replies.
 
-use crate::{Bytes, Seq};
+use crate::{Bytes, Seq, Words};
 use gl_base::{FloatBits, GlEnum};
 
 /// The data that a call is given.
@@ -118,6 +118,27 @@ pub enum ObjectCall {
     },
 }
 
+/// A call that clears, draws, or waits for what was drawn.
+#[derive(Clone, Copy, Debug, PartialEq, Eq)]
+pub enum DrawCall {
+    Clear {
+        mask: u32,
+    },
+    DrawArrays {
+        mode: GlEnum,
+        first: i32,
+        count: i32,
+    },
+    DrawElements {
+        mode: GlEnum,
+        count: i32,
+        kind: GlEnum,
+        indices: Pointer,
+    },
+    Flush,
+    Finish,
+}
+
 /// A call that asks for state.
 #[derive(Clone, Copy, Debug, PartialEq, Eq)]
 pub enum QueryCall {
@@ -128,6 +149,9 @@ pub enum QueryCall {
 #[derive(Debug, Drop)]
 pub enum Call {
     Object(ObjectCall),
+    /// The calls that set the fixed state, from Enable to Viewport, by the number of their command.
+    Raster { number: u32, words: Words },
+    Draw(DrawCall),
     Query(QueryCall),
 }
 

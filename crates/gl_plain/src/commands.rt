@@ -1,16 +1,18 @@
 //! Commands: as they are read from the ring, and as their words spell them.
 ghost use Rattle.std.specs.Prelude.{◌≡◌, ◌≤◌, slice_index};
 ghost use Rattle.gl_plain.specs.object.Commands.{object_command_in, program_command_in};
+ghost use Rattle.gl_plain.specs.draw.Commands.{draw_command_in};
 ghost use Rattle.gl_plain.specs.query.Commands.{query_command_in};
 ghost use Rattle.gl_plain.specs.Commands.{bucket_command_in, command_in, is_known};
 
 use crate::Bytes;
 use crate::numbers::{
-    ATTACH_SHADER, BIND_ATTRIB_LOCATION, BIND_BUFFER, BUFFER_DATA, BUFFER_SUB_DATA, COMPILE_SHADER,
-    CREATE_PROGRAM, CREATE_SHADER, DELETE_BUFFERS, DELETE_PROGRAM, DELETE_SHADER, DETACH_SHADER,
-    DISABLE_VERTEX_ATTRIB_ARRAY, ENABLE_VERTEX_ATTRIB_ARRAY, GEN_BUFFERS, GET_BUCKET_DATA,
-    GET_BUCKET_START, GET_ERROR, LINK_PROGRAM, NOOP, SET_BUCKET_DATA, SET_BUCKET_SIZE, SET_TOKEN,
-    SHADER_SOURCE, UNIFORM, USE_PROGRAM, VALIDATE_PROGRAM, VERTEX_ATTRIB_4F, VERTEX_ATTRIB_POINTER,
+    ATTACH_SHADER, BIND_ATTRIB_LOCATION, BIND_BUFFER, BUFFER_DATA, BUFFER_SUB_DATA, CLEAR,
+    COMPILE_SHADER, CREATE_PROGRAM, CREATE_SHADER, DELETE_BUFFERS, DELETE_PROGRAM, DELETE_SHADER,
+    DETACH_SHADER, DISABLE_VERTEX_ATTRIB_ARRAY, DRAW_ARRAYS, DRAW_ELEMENTS, ENABLE,
+    ENABLE_VERTEX_ATTRIB_ARRAY, FINISH, FLUSH, GEN_BUFFERS, GET_BUCKET_DATA, GET_BUCKET_START,
+    GET_ERROR, LINK_PROGRAM, NOOP, SET_BUCKET_DATA, SET_BUCKET_SIZE, SET_TOKEN, SHADER_SOURCE,
+    UNIFORM, USE_PROGRAM, VALIDATE_PROGRAM, VERTEX_ATTRIB_4F, VERTEX_ATTRIB_POINTER, VIEWPORT,
 };
 use arrayvec::ArrayVec;
 use gl_base::{FloatBits, GlEnum};
@@ -188,6 +190,32 @@ pub enum BucketCommand {
     },
 }
 
+/// A command on the fixed state, or one that clears or draws.
+#[derive(Clone, Copy, Debug, PartialEq, Eq)]
+pub enum DrawCommand {
+    /// The commands from Enable to Viewport: the number, and the words, of which those behind the last one count for nothing.
+    Raster {
+        number: u32,
+        words: [u32; 4],
+    },
+    Clear {
+        mask: u32,
+    },
+    DrawArrays {
+        mode: GlEnum,
+        first: i32,
+        count: i32,
+    },
+    DrawElements {
+        mode: GlEnum,
+        count: i32,
+        kind: GlEnum,
+        offset: u32,
+    },
+    Flush,
+    Finish,
+}
+
 /// A command that asks for state.
 #[derive(Clone, Copy, Debug, PartialEq, Eq)]
 pub enum QueryCommand {
@@ -202,6 +230,7 @@ pub enum Command {
     SetToken { token: u32 },
     Bucket(BucketCommand),
     Object(ObjectCommand),
+    Draw(DrawCommand),
     Query(QueryCommand),
 }
 
@@ -375,6 +404,40 @@ fn object_command(number: u32, words: &[u32]) -> Option<ObjectCommand>
     }
 }
 
+/// The command on the fixed state, or the one that clears or draws, that a number and words spell, or none.
+fn draw_command(number: u32, words: &[u32]) -> Option<DrawCommand>
+    ensures { result ≡ draw_command_in number words.now }
+{
+    match number {
+        ENABLE..=VIEWPORT => Some(DrawCommand::Raster {
+            number,
+            words: [
+                word(words, 0),
+                word(words, 1),
+                word(words, 2),
+                word(words, 3),
+            ],
+        }),
+        CLEAR => Some(DrawCommand::Clear {
+            mask: word(words, 0),
+        }),
+        DRAW_ARRAYS => Some(DrawCommand::DrawArrays {
+            mode: GlEnum(word(words, 0)),
+            first: word(words, 1).cast_signed(),
+            count: word(words, 2).cast_signed(),
+        }),
+        DRAW_ELEMENTS => Some(DrawCommand::DrawElements {
+            mode: GlEnum(word(words, 0)),
+            count: word(words, 1).cast_signed(),
+            kind: GlEnum(word(words, 2)),
+            offset: word(words, 3),
+        }),
+        FLUSH => Some(DrawCommand::Flush),
+        FINISH => Some(DrawCommand::Finish),
+        _ => None,
+    }
+}
+
 /// The query that a number spells, or none.
 fn query_command(number: u32) -> Option<QueryCommand>
     ensures { result ≡ query_command_in number }
@@ -404,6 +467,9 @@ fn spelled(number: u32, words: &[u32]) -> Option<Command>
     }
     if let Some(command) = object_command(number, words) {
         return Some(Command::Object(command));
+    }
+    if let Some(command) = draw_command(number, words) {
+        return Some(Command::Draw(command));
     }
     match query_command(number) {
         Some(command) => Some(Command::Query(command)),

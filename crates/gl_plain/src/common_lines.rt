@@ -1,8 +1,8 @@
-//! The lines that scripts and traces share: how many entries the ring has, and what the driver answers.
+//! The lines that scripts and traces share: the sides of the default framebuffer, how many entries the ring has, and what the driver answers.
 ghost use Rattle.std.specs.Prelude.{◌≡◌, ◌==◌, ◌&&◌, [], ◌∷◌, ◌++◌, length, if◌then◌else◌, IfOk, OnOk, OnErr};
 ghost use Rattle.std.specs.Option.{option_map};
 ghost use Rattle.gl_plain.specs.subjects.Links.{may_follow, may_follow_uniforms};
-ghost use Rattle.gl_plain.specs.CommonLines.{answers_in, attribute_in, closed, common_by_word, compile_line_in, declaration_in, answer_by_word, booleans_named, floats_named, integers_named, is_word, kind_in, kind_named, link_line_in, matrix_named, sampler_named, lost_in, no_draft, oom_in, outcome_in, ring_in, uniform_in, validate_line_in, verdict_in, with_attribute, with_compile, with_link, with_lost, with_oom, with_uniform, with_validate};
+ghost use Rattle.gl_plain.specs.CommonLines.{answers_in, attribute_in, closed, common_by_word, compile_line_in, declaration_in, answer_by_word, booleans_named, floats_named, integers_named, is_word, kind_in, kind_named, link_line_in, matrix_named, sampler_named, lost_in, no_draft, oom_in, outcome_in, ring_in, surface_in, uniform_in, validate_line_in, verdict_in, with_attribute, with_compile, with_link, with_lost, with_oom, with_uniform, with_validate};
 
 use crate::distinct::DistinctNumbers;
 use crate::fields::{bytes, cut, number};
@@ -21,6 +21,8 @@ use std::alloc::{AllocError, Global};
 /// A line that scripts and traces share.
 #[derive(Debug, Drop)]
 pub enum CommonLine {
+    /// The sides of the default framebuffer.
+    Surface { width: u32, height: u32 },
     /// How many entries the ring has.
     Ring(u32),
     /// A question whether there is room, counted from 0, that is answered with no.
@@ -37,6 +39,16 @@ pub enum CommonLine {
     OfUniform(Uniform),
     /// What the next validation says.
     Validate(Verdict),
+}
+
+#[tactic(auto, unfolding(crate::specs::CommonLines::surface_in))]
+fn surface_line(text: &[u8]) -> Option<CommonLine>
+    ensures { result ≡ surface_in text.now }
+{
+    let (width, height) = cut(text, b' ')?;
+    let width = number(width)?;
+    let height = number(height)?;
+    Some(CommonLine::Surface { width, height })
 }
 
 #[tactic(auto, unfolding(crate::specs::CommonLines::ring_in))]
@@ -323,12 +335,19 @@ pub fn common_line(
 ) -> Result<Option<CommonLine>, AllocError>
     ensures { IfOk result (λ line. line ≡ common_by_word word.now rest.now) }
 {
-    match word {
-        b"ring" => Ok(ring_line(rest)),
-        b"oom" => Ok(oom_line(rest)),
-        b"lost" => Ok(lost_line(rest)),
-        _ => answer_line(alloc, word, rest),
+    if is_word(word, b"surface") {
+        return Ok(surface_line(rest));
     }
+    if is_word(word, b"ring") {
+        return Ok(ring_line(rest));
+    }
+    if is_word(word, b"oom") {
+        return Ok(oom_line(rest));
+    }
+    if is_word(word, b"lost") {
+        return Ok(lost_line(rest));
+    }
+    answer_line(alloc, word, rest)
 }
 
 /// Adds an attribute to what a link said. The answer is whether it may stand there; else, and where there is no memory, all is as before.

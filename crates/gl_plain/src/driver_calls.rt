@@ -98,11 +98,39 @@ pub enum ProgramDriver {
     },
 }
 
+/// A driver call on the fixed state, or one that clears or draws.
+#[derive(Debug, Drop)]
+pub enum DrawDriver {
+    /// The calls that set the fixed state, from Enable to Viewport, by the number of their command, with its words as they are kept.
+    SetRaster {
+        number: u32,
+        words: Words,
+    },
+    Clear {
+        mask: u32,
+    },
+    /// The mask has a bit for each unit that is sampled and whose texture is not complete.
+    DrawArrays {
+        mode: GlEnum,
+        first: i32,
+        count: i32,
+        black: u32,
+    },
+    DrawElements {
+        mode: GlEnum,
+        count: i32,
+        kind: GlEnum,
+        offset: u32,
+        black: u32,
+    },
+}
+
 /// A driver call.
 #[derive(Debug, Drop)]
 pub enum DriverCall {
     Object(ObjectDriver),
     Program(ProgramDriver),
+    Draw(DrawDriver),
 }
 
 /// A driver's answer to a call.

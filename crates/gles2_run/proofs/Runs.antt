@@ -1,5 +1,6 @@
 -- From the puts of a script to what a desk holds.
-use Rattle.std.proofs.Common.{◌≡◌, ℕ, ◌+◌, Bool, true, false, nat_le, cond, List, [], ◌∷◌, ◌++◌, refl, sym, ◌∙◌, ap, subst, append-nil, arith, length, get_or, Option, Some, None, OnOk, IsErrOf, Result, Ok, Err, ◌≤◌}
+use Prim.Native.Nat.{suc}
+use Rattle.std.proofs.Common.{take, ◌≡◌, ℕ, ◌+◌, Bool, true, false, nat_le, cond, List, [], ◌∷◌, ◌++◌, refl, sym, ◌∙◌, ap, subst, append-nil, arith, length, get_or, Option, Some, None, OnOk, IsErrOf, Result, Ok, Err, ◌≤◌}
 use Rattle.std.specs.Option.{unwrap_or}
 use Rattle.std.specs.Prelude.{IfSome}
 use Rattle.gl_plain.specs.declared.commands.Stop.{Stop}
@@ -18,7 +19,9 @@ use Rattle.gl_plain.specs.Agreement.{Agrees}
 use Rattle.gl_plain.specs.Journal.{IsLegal, state_after, records_in}
 use Rattle.gl_plain.specs.Records.{run_records}
 use Rattle.gl_plain.proofs.Opening.{opening_agrees}
+use Rattle.gl_laws.proofs.Fronts.{AreFirst}
 use Rattle.gl_laws.proofs.Runs.{records_of_run}
+use Rattle.gl_laws.proofs.CutRuns.{records_of_cut}
 use Rattle.gl_driver.specs.History.{Served}
 use Rattle.gl_driver.specs.declared.stop.DriverStop.TheVariants as driver
 use Rattle.strict_driver.specs.StrictView.{StrictView}
@@ -177,11 +180,15 @@ module _ (script : Script) (a b : Side StrictView) (puts : List ℕ) (start : Is
   holds_cut : (lost : Bool) → WasCutOff lost a [] puts b answers → HoldsFront lost script (record { driver = b.driver; answers = answers })
   holds_cut lost cut =
       let off : IsCutOff lost (opening_wire script.surface) (seen script) cut.replies cut.entries = rw (← start.wire, ← all_is) (cut.run (script_reads script) end.given) in
-      let told : told cut.entries (answers_left b.driver) ≡ answers_of script = told_is cut.entries cut.served in
+      let told_here : told cut.entries (answers_left b.driver) ≡ answers_of script = told_is cut.entries cut.served in
       let run = off.run (answers_left b.driver) in
+      let legal : IsLegal (opening_driver script.surface) cut.entries = rw (← entered cut.entries cut.served, ← same_surface cut.entries cut.served) end.legal in
+      let records : AreFirst (records_in (opening_driver script.surface) cut.entries) (run_records (opening_wire script.surface) (read_contents (opening_driver script.surface).contents) (take (suc (length cut.replies)) (seen script).commands) (told cut.entries (answers_left b.driver))) =
+      records_of_cut (seen script).commands lost (length cut.replies) (opening_wire script.surface) (opening_driver script.surface) (answers_left b.driver) cut.entries (opening_agrees script.surface) legal (off.parts (answers_left b.driver)) in
       record {
-        replies = (run.0, ap (λ (o : Oracle). (wire_run (opening_wire script.surface) (seen script).commands (seen script).stop o).replies) (sym told) ∙ run.1 ∙ ap (λ (r : List Reply). r ++ run.0) (sym cut.answered));
-        parts = rw (cut.answered, entered cut.entries cut.served, ← told) (off.parts (answers_left b.driver));
+        replies = (run.0, ap (λ (o : Oracle). (wire_run (opening_wire script.surface) (seen script).commands (seen script).stop o).replies) (sym told_here) ∙ run.1 ∙ ap (λ (r : List Reply). r ++ run.0) (sym cut.answered));
+        parts = rw (cut.answered, entered cut.entries cut.served, ← told_here) (off.parts (answers_left b.driver));
+        records = rw (cut.answered, entered cut.entries cut.served, ← told_here) records;
         keeps = keeps cut.entries cut.served;
       }
 

@@ -1,5 +1,6 @@
 -- How a run ends, what that says of its words, its input and its desk, and what is written.
-use Rattle.std.specs.Prelude.{◌≡◌, ◌⊎◌, ◌<◌, ◌≤◌, ℕ, Bool, ◌==◌, ◌||◌, List, [], ◌∷◌, length, codes, Option, Some, None, IfSome, Ok, Err, false, ◌++◌, true}
+use Prim.Native.Nat.{suc}
+use Rattle.std.specs.Prelude.{◌≡◌, ◌⊎◌, ◌<◌, ◌≤◌, ℕ, Bool, ◌==◌, ◌||◌, List, [], ◌∷◌, length, take, codes, Option, Some, None, IfSome, Ok, Err, false, ◌++◌, true}
 use Rattle.std.specs.Io.KnownBytes.{Consumes, Appends, IsAtEnd}
 use Rattle.io_edge.specs.Causes.{Rose}
 use Rattle.io_edge.specs.Pieces.{ConsumesFront, AppendsFront}
@@ -15,7 +16,7 @@ use Rattle.cb_fetch.specs.Seen.{seen}
 use Rattle.gl_plain.specs.Run.{Run, wire_run}
 use Rattle.gl_plain.specs.Parts.{AreParts, AreCutParts}
 use Rattle.gl_plain.specs.Journal.{state_after, records_in}
-use Rattle.gl_plain.specs.Records.{run_records}
+use Rattle.gl_plain.specs.Records.{Record, run_records}
 use Rattle.gl_plain.specs.Agreement.{Agrees}
 use Rattle.gl_driver.specs.declared.stop.DriverStop.TheVariants as driver
 use Rattle.ring_script.specs.Script.{script_in}
@@ -63,7 +64,7 @@ pub record KeepsToScript (script : Script) (desk : Desk) : Type 0 where
   pub within : IfSome script.answers.lost (λ n. length desk.driver.journal ≤ n)
 
 -- The desk holds the run of a script: the replies, one part of the journal for each command, and a driver whose tables are those that
--- the calls of OpenGL ES left. What the driver calls drew, cleared, copied, reduced and read are the records of the run.
+-- the calls of OpenGL ES left. What the driver calls drew and cleared are the records of the run.
 pub record HoldsRun (script : Script) (desk : Desk) : Type 0 where
   pub replies : desk.answers ≡ (ring_run script).replies
   pub parts : AreParts (opening_wire script.surface) (seen script).commands (answers_of script) desk.driver.journal
@@ -79,10 +80,13 @@ pub record HoldsRunOf (input : List ℕ) (stop : Option Stop) (desk : Desk) : Ty
   pub run : HoldsRun script desk
 
 -- The desk holds the front of a script's run that was cut off, by a lost driver or for want of memory: the first of its replies, and of
--- the driver calls one part for each command that was answered, in order, and a front of the part of the next one, if there is one.
+-- the driver calls one part for each command that was answered, in order, and a front of the part of the next one, if there is one. What they
+-- drew and cleared are the first of the records of those commands.
 pub record HoldsFront (lost : Bool) (script : Script) (desk : Desk) : Type 0 where
   pub replies : (more : List Reply) × ((ring_run script).replies ≡ desk.answers ++ more)
   pub parts : AreCutParts lost (opening_wire script.surface) (seen script).commands (length desk.answers) (answers_of script) desk.driver.journal
+  pub records : (more : List Record) × (run_records (opening_wire script.surface) (read_contents (opening_driver script.surface).contents) (take (suc (length desk.answers)) (seen script).commands) (answers_of script)
+      ≡ records_in (opening_driver script.surface) desk.driver.journal ++ more)
   pub keeps : KeepsToScript script desk
 
 -- the input is a script, whose run was cut off for want of memory

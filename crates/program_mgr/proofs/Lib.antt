@@ -6,4 +6,3 @@ pub mod Stored
 pub mod Uses
 pub mod Attached
 pub mod Linking
-pub mod Marked

@@ -167,6 +167,7 @@ fn names_and_units_are_found(rt: HostRuntime) -> Result<(), Fail> {
     assert_eq!(rt; programs.location(3, b"light[0x2]"), None);
     assert_eq!(rt; programs.location(3, b"image[0]"), None);
     assert!(rt; programs.samplers().is_empty() && programs.used_attributes() == 0);
+    assert!(rt; !programs.has_executable() && !programs.unit_views()[7].flat);
     programs.use_program(13);
     assert_eq!(rt; programs.set_uniform(4, 5, 1, &[7, 0, 0, 0]), Ok(()));
     let used = UnitUse {
@@ -176,5 +177,8 @@ fn names_and_units_are_found(rt: HostRuntime) -> Result<(), Fail> {
     };
     assert_eq!(rt; programs.samplers().as_slice(), [used].as_slice());
     assert_eq!(rt; programs.used_attributes(), 0b110);
+    assert!(rt; programs.has_executable());
+    let last = programs.unit_views()[7];
+    assert!(rt; last.flat && !last.cube && !last.complete && !last.attached);
     Ok(())
 }

@@ -4,7 +4,9 @@ use Rattle.std.specs.Fmt.{decimal, signed_decimal}
 use Rattle.gl_plain.specs.declared.driver_calls.ObjectDriver.{ObjectDriver}
 use Rattle.gl_plain.specs.declared.driver_calls.ObjectDriver.TheVariants.{GenBuffer, BindBuffer, BufferData, BufferSubData, DeleteBuffer, VertexAttrib4, VertexAttribPointer, SetArray}
 use Rattle.gl_plain.specs.declared.driver_calls.DriverCall.{DriverCall}
-use Rattle.gl_plain.specs.declared.driver_calls.DriverCall.TheVariants.{Object, Program}
+use Rattle.gl_plain.specs.declared.driver_calls.DriverCall.TheVariants.{Object, Program, Draw}
+use Rattle.gl_plain.specs.declared.driver_calls.DrawDriver.{DrawDriver}
+use Rattle.gl_plain.specs.declared.driver_calls.DrawDriver.TheVariants.{SetRaster, Clear, DrawArrays, DrawElements}
 use Rattle.gl_plain.specs.declared.driver_calls.ProgramDriver.{ProgramDriver}
 use Rattle.gl_plain.specs.declared.driver_calls.ProgramDriver.TheVariants.{CreateShader, CreateProgram, DeleteShader, DeleteProgram, ShaderSource, CompileShader, AttachShader, DetachShader, BindAttribLocation, LinkProgram, ValidateProgram, UseProgram, Uniform}
 use Rattle.gl_plain.specs.declared.driver_calls.Answer.{Answer}
@@ -41,10 +43,19 @@ program_text (ValidateProgram name) = codes "validate_program" ++ spaced (decima
 program_text (UseProgram name) = codes "use_program" ++ spaced (decimal name ∷ [])
 program_text (Uniform location kind count bytes) = codes "uniform" ++ spaced (signed_decimal location ∷ decimal kind ∷ signed_decimal count ∷ bytes_text bytes ∷ [])
 
+-- a call on the fixed state, or one that clears or draws, is its name and its arguments; words of the fixed state are printed as float patterns are
+unfoldable pub drawing_text : DrawDriver → List ℕ
+drawing_text (SetRaster number words) = codes "set_raster" ++ spaced (decimal number ∷ map pattern_text words)
+drawing_text (Clear mask) = codes "clear" ++ spaced (decimal mask ∷ [])
+drawing_text (DrawArrays mode first count black) = codes "draw_arrays" ++ spaced (enum_text mode.0 ∷ signed_decimal first ∷ signed_decimal count ∷ decimal black ∷ [])
+drawing_text (DrawElements mode count kind offset black) =
+    codes "draw_elements" ++ spaced (enum_text mode.0 ∷ signed_decimal count ∷ enum_text kind.0 ∷ decimal offset ∷ decimal black ∷ [])
+
 -- a call is printed as those of its kind are
 unfoldable pub call_text : DriverCall → List ℕ
 call_text (Object call) = object_text call
 call_text (Program call) = program_text call
+call_text (Draw call) = drawing_text call
 
 -- whether it went well
 abbrev pub outcome_text : Bool → List ℕ

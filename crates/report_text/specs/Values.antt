@@ -17,7 +17,7 @@ upper_hex width value =
 unfoldable pub enum_text : ℕ → List ℕ
 enum_text value = upper_hex 4 value
 
--- the pattern of a float has eight digits
+-- the pattern of a float, and a word of the fixed state, has eight digits
 unfoldable pub pattern_text : ℕ → List ℕ
 pattern_text value = upper_hex 8 value
 

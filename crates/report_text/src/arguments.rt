@@ -13,7 +13,7 @@ pub enum Argument<'a> {
     Enum(GlEnum),
     /// 1 for what is so, 0 for what is not.
     Flag(bool),
-    /// Floats by their patterns, each as `0x` and eight upper-case digits.
+    /// Floats by their patterns, or words of the fixed state, each as `0x` and eight upper-case digits.
     Patterns(&'a [u32]),
     /// How many bytes there are, and the first of them.
     Data(&'a [u8]),

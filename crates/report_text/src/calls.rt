@@ -1,6 +1,7 @@
 //! A driver call and its answer as they are printed.
 ghost use Rattle.std.specs.Prelude.{◌≡◌, ◌++◌, OnOk};
-ghost use Rattle.report_text.specs.Calls.{answer_text, call_text, object_text, outcome_text, program_text};
+ghost use Rattle.gl_plain.specs.declared.driver_calls.DrawDriver.TheVariants.{DrawArrays, DrawElements};
+ghost use Rattle.report_text.specs.Calls.{answer_text, call_text, drawing_text, object_text, outcome_text, program_text};
 ghost use Rattle.report_text.specs.Lines.{spaced};
 ghost use Rattle.report_text.specs.Values.{words};
 
@@ -8,7 +9,8 @@ use crate::arguments::Argument;
 use crate::values::write_number;
 use crate::words::write_words;
 use Argument::{Data, Enum, Flag, Number, Patterns, Signed};
-use gl_plain::{Answer, DriverCall, ObjectDriver, ProgramDriver};
+use gl_base::GlEnum;
+use gl_plain::{Answer, DrawDriver, DriverCall, ObjectDriver, ProgramDriver};
 use std::alloc::AllocError;
 
 /// Writes the name of a call and its arguments.
@@ -148,6 +150,79 @@ fn write_program(line: &mut Vec<u8>, call: &ProgramDriver) -> Result<(), AllocEr
     }
 }
 
+#[tactic(auto, unfolding(crate::specs::Calls::drawing_text))]
+fn write_draw_arrays(
+    line: &mut Vec<u8>,
+    mode: GlEnum,
+    first: i32,
+    count: i32,
+    black: u32,
+) -> Result<(), AllocError>
+    ensures { OnOk result (line.new.items ≡ line.old.items ++ drawing_text (DrawArrays mode first count black)) }
+{
+    write_named(
+        line,
+        "draw_arrays",
+        &[
+            Enum(mode),
+            Signed(first),
+            Signed(count),
+            Number(u64::from(black)),
+        ],
+    )
+}
+
+#[tactic(auto, unfolding(crate::specs::Calls::drawing_text))]
+fn write_draw_elements(
+    line: &mut Vec<u8>,
+    mode: GlEnum,
+    count: i32,
+    kind: GlEnum,
+    offset: u32,
+    black: u32,
+) -> Result<(), AllocError>
+    ensures { OnOk result (line.new.items ≡ line.old.items ++ drawing_text (DrawElements mode count kind offset black)) }
+{
+    write_named(
+        line,
+        "draw_elements",
+        &[
+            Enum(mode),
+            Signed(count),
+            Enum(kind),
+            Number(u64::from(offset)),
+            Number(u64::from(black)),
+        ],
+    )
+}
+
+#[tactic(auto, unfolding(crate::specs::Calls::drawing_text))]
+fn write_drawing(line: &mut Vec<u8>, call: &DrawDriver) -> Result<(), AllocError>
+    ensures { OnOk result (line.new.items ≡ line.old.items ++ drawing_text call.now) }
+{
+    match call {
+        DrawDriver::SetRaster { number, words } => write_named(
+            line,
+            "set_raster",
+            &[Number(u64::from(*number)), Patterns(words.as_slice())],
+        ),
+        DrawDriver::Clear { mask } => write_named(line, "clear", &[Number(u64::from(*mask))]),
+        DrawDriver::DrawArrays {
+            mode,
+            first,
+            count,
+            black,
+        } => write_draw_arrays(line, *mode, *first, *count, *black),
+        DrawDriver::DrawElements {
+            mode,
+            count,
+            kind,
+            offset,
+            black,
+        } => write_draw_elements(line, *mode, *count, *kind, *offset, *black),
+    }
+}
+
 /// Writes the name of a call and its arguments.
 #[tactic(auto, unfolding(crate::specs::Calls::call_text))]
 pub fn write_call(line: &mut Vec<u8>, call: &DriverCall) -> Result<(), AllocError>
@@ -156,6 +231,7 @@ pub fn write_call(line: &mut Vec<u8>, call: &DriverCall) -> Result<(), AllocErro
     match call {
         DriverCall::Object(call) => write_object(line, call),
         DriverCall::Program(call) => write_program(line, call),
+        DriverCall::Draw(call) => write_drawing(line, call),
     }
 }
 

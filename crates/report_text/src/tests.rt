@@ -1,10 +1,10 @@
 //! Lines of each kind. The other rows are shown by whole runs.
 use super::*;
 use gl_base::GlEnum;
-use gl_base::enums::{ARRAY_BUFFER, INVALID_VALUE, STATIC_DRAW};
+use gl_base::enums::{ARRAY_BUFFER, INVALID_VALUE, STATIC_DRAW, UNSIGNED_BYTE};
 use gl_plain::{
-    Answer, AttributeList, Bytes, DriverCall, DriverEntry, LinkAnswer, Names, ObjectDriver,
-    ProgramDriver, Reply, UniformList,
+    Answer, AttributeList, Bytes, DrawDriver, DriverCall, DriverEntry, LinkAnswer, Names,
+    ObjectDriver, ProgramDriver, Reply, UniformList, Words,
 };
 use std::alloc::{AllocError, Global};
 use std::process::Abort;
@@ -92,6 +92,33 @@ fn calls_on_programs_have_lines(rt: HostRuntime) -> Result<(), Fail> {
     };
     let line = journal_line(alloc, 4, &linked)?;
     check_line(&rt, line, "driver 4 link_program 7 -> fail\n");
+    Ok(())
+}
+
+#[test]
+fn calls_that_set_and_draw_have_lines(rt: HostRuntime) -> Result<(), Fail> {
+    let alloc = rt.alloc();
+    let set = DriverEntry {
+        call: DriverCall::Draw(DrawDriver::SetRaster {
+            number: 298,
+            words: Words::from_slice(alloc, &[0xBE2, u32::MAX])?,
+        }),
+        answer: Answer::Done,
+    };
+    let line = journal_line(alloc, 5, &set)?;
+    check_line(&rt, line, "driver 5 set_raster 298 0x00000BE2 0xFFFFFFFF\n");
+    let draw = DriverEntry {
+        call: DriverCall::Draw(DrawDriver::DrawElements {
+            mode: GlEnum(4),
+            count: 3,
+            kind: UNSIGNED_BYTE,
+            offset: 7,
+            black: 128,
+        }),
+        answer: Answer::Done,
+    };
+    let line = journal_line(alloc, 6, &draw)?;
+    check_line(&rt, line, "driver 6 draw_elements 0x0004 3 0x1401 7 128\n");
     Ok(())
 }
 

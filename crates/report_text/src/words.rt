@@ -11,7 +11,7 @@ use std::alloc::AllocError;
 /// How many digits an enum has at least.
 const ENUM_DIGITS: usize = 4;
 
-/// How many digits the pattern of a float has.
+/// How many digits the pattern of a float, or a word of the fixed state, has.
 const PATTERN_DIGITS: usize = 8;
 
 fn write_space(line: &mut Vec<u8>) -> Result<(), AllocError>

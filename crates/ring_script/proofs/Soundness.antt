@@ -13,11 +13,11 @@ use Rattle.cb_shm.specs.Hostile.{listed_size, script_sizes}
 use Rattle.cb_shm.specs.Whole.{AreDistinct, HasNumber, IsPatchInside, IsTimedInside}
 use Rattle.gl_plain.specs.declared.common_lines.AnswersDraft.{AnswersDraft}
 use Rattle.gl_plain.specs.declared.common_lines.CommonLine.{CommonLine}
-use Rattle.gl_plain.specs.declared.common_lines.CommonLine.TheVariants.{Ring, Oom, Lost, Compile, Link, OfAttribute, OfUniform, Validate}
+use Rattle.gl_plain.specs.declared.common_lines.CommonLine.TheVariants.{Surface, Ring, Oom, Lost, Compile, Link, OfAttribute, OfUniform, Validate}
 use Rattle.gl_plain.specs.CommonLines.{closed, with_attribute, with_compile, with_link, with_lost, with_oom, with_uniform, with_validate, IsSoundDraft}
 use Rattle.gl_plain.proofs.SoundAnswers.{let_through, sound_attribute, sound_closed, sound_compile, sound_link, sound_lost, sound_no_draft, sound_oom, sound_uniform, sound_validate}
 use Rattle.ring_script.specs.Limits.{listed_bytes, total_bytes, IsSmall}
-use Rattle.ring_script.specs.Rules.{before_line, draft_after, empty_draft, ends_list, is_first, script_of, with_answers, with_common, with_line, with_opening, with_put, with_region, with_ring, with_timed, IsSound}
+use Rattle.ring_script.specs.Rules.{before_line, draft_after, empty_draft, ends_list, is_first, is_side, script_of, with_answers, with_common, with_line, with_opening, with_put, with_region, with_ring, with_surface, with_timed, IsSound}
 use Rattle.ring_script.specs.Script.{draft_with}
 use Rattle.ring_script.specs.Lines.{line_in}
 use Rattle.ring_script.specs.declared.draft.Draft.{Draft}
@@ -193,8 +193,8 @@ sound_timed draft next t sound e =
     })
 
 -- a line that says nothing of the memory
-sound_beside : (draft : Draft) (puts : List ℕ) (answers : AnswersDraft) → IsSound draft → IsSoundDraft answers → IsSound (record draft { puts = puts; answers = answers })
-sound_beside draft puts answers sound said = record {
+sound_beside : (draft : Draft) (surface : Option (ℕ × ℕ)) (puts : List ℕ) (answers : AnswersDraft) → IsSound draft → IsSoundDraft answers → IsSound (record draft { surface = surface; puts = puts; answers = answers })
+sound_beside draft surface puts answers sound said = record {
   whole = record {
     some_entries = sound.whole.some_entries;
     few_entries = sound.whole.few_entries;
@@ -207,21 +207,29 @@ sound_beside draft puts answers sound said = record {
   answers = said;
 }
 
+-- a `surface` line that may stand
+sound_surface : (draft next : Draft) (width height : ℕ) → IsSound draft → with_surface draft width height ≡ Some next → IsSound next
+unfolding with_surface
+sound_surface draft next width height sound e =
+    let chosen = let_through (is_none draft.surface && is_side width && is_side height) (record draft { surface = Some (width, height) }) next e in
+    subst IsSound chosen.1 (sound_beside draft (Some (width, height)) draft.puts draft.answers sound sound.answers)
+
 -- a `put` line
 sound_put : (draft next : Draft) (put : ℕ) → IsSound draft → Some (with_put draft put) ≡ Some next → IsSound next
 sound_put draft next put sound e =
     let same : with_put draft put ≡ next = cc in
-    subst IsSound same (sound_beside draft (draft.puts ++ put ∷ []) draft.answers sound sound.answers)
+    subst IsSound same (sound_beside draft draft.surface (draft.puts ++ put ∷ []) draft.answers sound sound.answers)
 
 -- a line that traces have as well, by the answers that it gives
 sound_answers : (draft next : Draft) (answers : Option AnswersDraft) → IsSound draft → ((a : AnswersDraft) → answers ≡ Some a → IsSoundDraft a) → with_answers draft answers ≡ Some next → IsSound next
 sound_answers draft next None sound said e = absurd (cc)
 sound_answers draft next (Some answers) sound said e =
     let same : record draft { answers = answers } ≡ next = cc in
-    subst IsSound same (sound_beside draft draft.puts answers sound (said answers refl))
+    subst IsSound same (sound_beside draft draft.surface draft.puts answers sound (said answers refl))
 
 sound_common : (draft next : Draft) (line : CommonLine) → IsSound draft → with_common draft line ≡ Some next → IsSound next
 unfolding with_common
+sound_common draft next (Surface width height) sound e = sound_surface draft next width height sound e
 sound_common draft next (Ring n) sound e = sound_ring draft next n sound e
 sound_common draft next (Oom question) sound e = sound_answers draft next (with_oom draft.answers question) sound (λ a. sound_oom draft.answers a question sound.answers) e
 sound_common draft next (Lost call) sound e = sound_answers draft next (with_lost draft.answers call) sound (λ a. sound_lost draft.answers a call sound.answers) e
@@ -246,7 +254,7 @@ pub sound_before : (draft : Draft) (line : Line) → IsSound draft → IsSound (
 sound_before draft line sound = go (ends_list line)
   where
     go : (b : Bool) → IsSound (if b then record draft { answers = closed draft.answers } else draft)
-    go true = sound_beside draft draft.puts (closed draft.answers) sound (sound_closed draft.answers sound.answers)
+    go true = sound_beside draft draft.surface draft.puts (closed draft.answers) sound (sound_closed draft.answers sound.answers)
     go false = sound
 
 -- any line that may stand after those before

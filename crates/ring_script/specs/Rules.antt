@@ -7,9 +7,9 @@ use Rattle.gl_plain.specs.declared.memory.Timed.{Timed}
 use Rattle.cb_shm.specs.Hostile.{listed_size, script_sizes}
 use Rattle.cb_shm.specs.Whole.{IsWholeScript}
 use Rattle.cb_shm.specs.declared.script.Script.{Script}
-use Rattle.gl_base.specs.declared.limits.TheConstants.{DATA_LIMIT, DEFAULT_SURFACE, DEFAULT_ENTRIES, LEAST_ENTRIES, MOST_ENTRIES, LAST_REGION, TOTAL_LIMIT}
+use Rattle.gl_base.specs.declared.limits.TheConstants.{DATA_LIMIT, DEFAULT_SURFACE, DEFAULT_ENTRIES, LEAST_ENTRIES, MOST_ENTRIES, LAST_REGION, SIDE_LIMIT, TOTAL_LIMIT}
 use Rattle.gl_plain.specs.declared.common_lines.CommonLine.{CommonLine}
-use Rattle.gl_plain.specs.declared.common_lines.CommonLine.TheVariants.{Ring, Oom, Lost, Compile, Link, OfAttribute, OfUniform, Validate}
+use Rattle.gl_plain.specs.declared.common_lines.CommonLine.TheVariants.{Surface, Ring, Oom, Lost, Compile, Link, OfAttribute, OfUniform, Validate}
 use Rattle.gl_plain.specs.declared.common_lines.AnswersDraft.{AnswersDraft}
 use Rattle.gl_plain.specs.CommonLines.{no_draft, answers_in, closed, with_attribute, with_compile, with_link, with_lost, with_oom, with_uniform, with_validate, IsSoundDraft}
 use Rattle.ring_script.specs.Limits.{total_bytes, IsWithinLimits}
@@ -19,16 +19,16 @@ use Rattle.ring_script.specs.declared.line.Line.TheVariants.{PassedOver, Region 
 
 -- what is said before the first line
 abbrev pub empty_draft : Draft
-empty_draft = record { ring = None; regions = []; opening = []; timed = []; puts = []; answers = no_draft }
+empty_draft = record { surface = None; ring = None; regions = []; opening = []; timed = []; puts = []; answers = no_draft }
 
 -- without a `ring` line the ring has 4,096 entries
 abbrev pub entries_of : Draft → ℕ
 entries_of draft = unwrap_or draft.ring DEFAULT_ENTRIES
 
--- the script that the lines say
+-- the script that the lines say; without a `surface` line the default framebuffer has 64 by 64 pixels
 abbrev pub script_of : Draft → Script
 script_of draft = record {
-  surface = DEFAULT_SURFACE;
+  surface = unwrap_or draft.surface DEFAULT_SURFACE;
   entries = entries_of draft;
   regions = draft.regions;
   opening = draft.opening;
@@ -37,11 +37,19 @@ script_of draft = record {
   answers = answers_in draft.answers;
 }
 
--- no line has said anything so far, but perhaps of the driver's answers
+-- from 1 to 2,048 columns or rows
+abbrev pub is_side : ℕ → Bool
+is_side n = nat_le 1 n && nat_le n SIDE_LIMIT
+
+-- `surface` stands once, anywhere
+unfoldable pub with_surface : Draft → ℕ → ℕ → Option Draft
+with_surface draft width height = if is_none draft.surface && is_side width && is_side height then Some (record draft { surface = Some (width, height) }) else None
+
+-- no line has said anything so far, but perhaps of the surface and of the driver's answers
 abbrev pub is_first : Draft → Bool
 is_first draft = is_none draft.ring && (length draft.regions == 0) && (length draft.opening == 0) && (length draft.timed == 0) && (length draft.puts == 0)
 
--- `ring` stands once, before any other line that says something but those on the driver's answers, with 2 to 1,048,576 entries
+-- `ring` stands once, before any other line that says something but those on the surface and on the driver's answers, with 2 to 1,048,576 entries
 unfoldable pub with_ring : Draft → ℕ → Option Draft
 with_ring draft n = if is_first draft && nat_le LEAST_ENTRIES n && nat_le n MOST_ENTRIES then Some (record draft { ring = Some n }) else None
 
@@ -75,6 +83,7 @@ with_answers draft (Some answers) = Some (record draft { answers = answers })
 -- a line that traces have as well: those on the driver's answers stand anywhere, `oom` with each question once, `lost` once, and `attr` and
 -- `uniform` in the list of the last link
 unfoldable pub with_common : Draft → CommonLine → Option Draft
+with_common draft (Surface width height) = with_surface draft width height
 with_common draft (Ring n) = with_ring draft n
 with_common draft (Oom question) = with_answers draft (with_oom draft.answers question)
 with_common draft (Lost call) = with_answers draft (with_lost draft.answers call)
@@ -86,6 +95,7 @@ with_common draft (Validate v) = with_answers draft (with_validate draft.answers
 
 -- whether a line that traces have as well ends the list of the last link
 abbrev pub ends_list_of_link : CommonLine → Bool
+ends_list_of_link (Surface width height) = true
 ends_list_of_link (Ring n) = true
 ends_list_of_link (Oom question) = true
 ends_list_of_link (Lost call) = true

@@ -4,13 +4,13 @@ ghost use Rattle.gl_plain.specs.Regions.{is_inside};
 ghost use Rattle.gl_base.specs.declared.limits.TheConstants.{TOTAL_LIMIT};
 ghost use Rattle.cb_shm.specs.Hostile.{listed_size, script_sizes};
 ghost use Rattle.ring_script.specs.Limits.{listed_bytes, total_bytes, IsWithinLimits};
-ghost use Rattle.ring_script.specs.Rules.{before_line, draft_after, empty_draft, ends_list, ends_list_of_link, entries_of, is_first, script_of, with_common, with_opening, with_put, with_region, with_ring, with_timed, IsSound};
+ghost use Rattle.ring_script.specs.Rules.{before_line, draft_after, empty_draft, ends_list, ends_list_of_link, entries_of, is_first, is_side, script_of, with_common, with_opening, with_put, with_region, with_ring, with_surface, with_timed, IsSound};
 
 use crate::line::Line;
 use cb_shm::Script;
 use gl_base::limits::{
     DATA_LIMIT, DEFAULT_ENTRIES, DEFAULT_SURFACE, LAST_REGION, LEAST_ENTRIES, MOST_ENTRIES,
-    TOTAL_LIMIT,
+    SIDE_LIMIT, TOTAL_LIMIT,
 };
 use gl_plain::{
     AnswersDraft, CommonLine, Patch, PatchList, Region, RegionList, Timed, TimedList, Words,
@@ -20,6 +20,7 @@ use std::alloc::{AllocError, Global};
 /// What the lines so far have said.
 #[derive(Drop)]
 pub struct Draft {
+    pub surface: Option<(u32, u32)>,
     pub ring: Option<u32>,
     pub regions: RegionList,
     pub opening: PatchList,
@@ -52,6 +53,13 @@ fn listed_bytes(regions: &[Region]) -> u64
     bytes
 }
 
+/// Whether a default framebuffer may have so many columns or rows.
+fn is_side(pixels: u32) -> bool
+    ensures { result ≡ is_side pixels }
+{
+    pixels >= 1 && pixels <= SIDE_LIMIT
+}
+
 /// Whether a line of answers ends the list of the last link.
 fn ends_list_of_link(line: &CommonLine) -> bool
     ensures { result ≡ ends_list_of_link line.now }
@@ -76,6 +84,7 @@ impl Draft {
         ensures { result ≡ empty_draft }
     {
         Draft {
+            surface: None,
             ring: None,
             regions: RegionList::new(alloc),
             opening: PatchList::new(alloc),
@@ -128,6 +137,17 @@ impl Draft {
         ensures { result ≡ total_bytes (script_of self.now) }
     {
         4 * u64::from(self.entries()) + listed_bytes(self.regions.as_slice())
+    }
+
+    #[tactic(auto, unfolding(crate::specs::Rules::with_surface))]
+    fn take_surface(&mut self, width: u32, height: u32) -> bool
+        ensures { with_surface self.old width height ≡ (if result then Some self.new else None) }
+    {
+        let is_taken = self.surface.is_none() && is_side(width) && is_side(height);
+        if is_taken {
+            self.surface = Some((width, height));
+        }
+        is_taken
     }
 
     #[tactic(auto, unfolding(crate::specs::Rules::with_ring))]
@@ -189,11 +209,12 @@ impl Draft {
         Ok(true)
     }
 
-    #[tactic(auto, unfolding(crate::specs::Rules::with_common, crate::specs::Rules::with_ring))]
+    #[tactic(auto, unfolding(crate::specs::Rules::with_common, crate::specs::Rules::with_surface, crate::specs::Rules::with_ring))]
     fn take_common(&mut self, alloc: Global, line: CommonLine) -> Result<bool, AllocError>
         ensures { IfOk result (λ taken. with_common self.old line ≡ (if taken then Some self.new else None)) }
     {
         match line {
+            CommonLine::Surface { width, height } => Ok(self.take_surface(width, height)),
             CommonLine::Ring(entries) => Ok(self.take_ring(entries)),
             CommonLine::Oom(question) => self.answers.take_oom(question),
             CommonLine::Lost(call) => Ok(self.answers.take_lost(call)),
@@ -238,6 +259,7 @@ impl Draft {
     {
         let entries = self.entries();
         let Draft {
+            surface,
             ring: _,
             regions,
             opening,
@@ -247,7 +269,7 @@ impl Draft {
         } = self;
         let answers = answers.into_answers()?;
         Ok(Script {
-            surface: DEFAULT_SURFACE,
+            surface: surface.unwrap_or(DEFAULT_SURFACE),
             entries,
             regions,
             opening,

@@ -39,8 +39,9 @@ fn check_answers(rt: &impl Abort, answers: &Answers) {
 #[tactic(auto, using(crate::proofs::TextLines::few_lines))]
 fn a_script_is_what_its_lines_say(rt: HostRuntime) -> Result<(), Fail> {
     let text =
-        b"# all lines\nring 4\nregion 7 3\nbytes 0 0 01fF\nat 9 7 1 0a\nput 0xA\n\nbytes 7 1 Ab\nregion 1 0\nput 2\noom 3\nat 0x8 0 16 -\nlost 9\noom 0x0\ncompile fail 6e6F\nlink fail -\nlink ok 00\nattr pos FLOAT_VEC3 14\n\nattr a 0x1406 13\nuniform m[0] FLOAT_MAT4 1024\nvalidate ok -";
+        b"# all lines\nring 4\nregion 7 3\nsurface 2048 1\nbytes 0 0 01fF\nat 9 7 1 0a\nput 0xA\n\nbytes 7 1 Ab\nregion 1 0\nput 2\noom 3\nat 0x8 0 16 -\nlost 9\noom 0x0\ncompile fail 6e6F\nlink fail -\nlink ok 00\nattr pos FLOAT_VEC3 14\n\nattr a 0x1406 13\nuniform m[0] FLOAT_MAT4 1024\nvalidate ok -";
     let script = read_script(rt.alloc(), text)?;
+    assert_eq!(rt; script.surface, (2048, 1));
     assert_eq!(rt; script.entries, 4);
     assert_eq!(rt; script.puts.as_slice(), [10u32, 2].as_slice());
     assert_eq!(rt; script.answers.oom.as_slice(), [3u32, 0].as_slice());

@@ -1,7 +1,9 @@
 -- Journals whose answers are those of an oracle.
 use Rattle.std.proofs.Common.{◌≡◌, List, [], ◌∷◌, ◌++◌, refl, ◌∙◌, ap}
 use Rattle.gl_plain.specs.declared.driver_calls.DriverCall.{DriverCall}
-use Rattle.gl_plain.specs.declared.driver_calls.DriverCall.TheVariants.{Object, Program}
+use Rattle.gl_plain.specs.declared.driver_calls.DriverCall.TheVariants.{Object, Program, Draw}
+use Rattle.gl_plain.specs.declared.driver_calls.DrawDriver.{DrawDriver}
+use Rattle.gl_plain.specs.declared.driver_calls.DrawDriver.TheVariants.{SetRaster}
 use Rattle.gl_plain.specs.declared.driver_calls.DriverEntry.{DriverEntry}
 use Rattle.gl_plain.specs.declared.driver_calls.ObjectDriver.{ObjectDriver}
 use Rattle.gl_plain.specs.declared.driver_calls.ObjectDriver.TheVariants.{GenBuffer, BufferData}
@@ -10,7 +12,7 @@ use Rattle.gl_plain.specs.declared.driver_calls.ProgramDriver.TheVariants.{Creat
 use Rattle.gl_plain.specs.declared.driver_calls.Stored.{Stored}
 use Rattle.gl_plain.specs.declared.driver_calls.Stored.TheVariants as room
 use Rattle.gl_plain.specs.Oracle.{Oracle, first, led_by}
-use Rattle.gl_plain.specs.driver.Answers.{told, told_call, told_object, told_of_program, told_stored, stored_answer, object_answer, program_answer, answer_to, behind_object, behind_program, behind_call, behind_entries, AreAnsweredBy}
+use Rattle.gl_plain.specs.driver.Answers.{told, told_call, told_object, told_of_program, told_drawing, told_stored, stored_answer, object_answer, program_answer, answer_to, behind_object, behind_program, behind_drawing, behind_call, behind_entries, AreAnsweredBy}
 use Rattle.gl_plain.proofs.Journals.{led_by-behind}
 
 told_room : (s : Stored) (o : Oracle) → told_stored (stored_answer s) o ≡ record o { stored = led_by s o.stored }
@@ -32,9 +34,19 @@ told_behind_program (LinkProgram name) o = λ i. record o { link = λ k. led_by-
 told_behind_program (ValidateProgram name) o = λ i. record o { validate = λ k. led_by-behind o.validate k i }
 told_behind_program call o = refl
 
+-- a call on the fixed state, or one that clears or draws, asks nothing
+pub drawing_asks_nothing : (call : DrawDriver) (o : Oracle) → behind_drawing call o ≡ o
+drawing_asks_nothing (SetRaster number words) o = refl
+drawing_asks_nothing call o = refl
+
+told_behind_drawing : (call : DrawDriver) (o : Oracle) → told_drawing call (behind_drawing call o) ≡ o
+told_behind_drawing (SetRaster number words) o = refl
+told_behind_drawing call o = refl
+
 pub told_behind_call : (call : DriverCall) (o : Oracle) → told_call call (answer_to o call) (behind_call call o) ≡ o
 told_behind_call (Object call) o = told_behind_object call o
 told_behind_call (Program call) o = told_behind_program call o
+told_behind_call (Draw call) o = told_behind_drawing call o
 
 pub told_behind : (o : Oracle) (es : List DriverEntry) → AreAnsweredBy o es → told es (behind_entries es o) ≡ o
 told_behind o [] h = refl

@@ -8,16 +8,18 @@ use Rattle.gl_plain.specs.declared.driver_calls.DriverEntry.{DriverEntry}
 use Rattle.gl_plain.specs.declared.driver_calls.Answer.{Answer}
 use Rattle.gl_plain.specs.declared.driver_calls.Answers.{Answers}
 use Rattle.gl_plain.specs.declared.driver_calls.DriverCall.{DriverCall}
-use Rattle.gl_plain.specs.declared.driver_calls.DriverCall.TheVariants.{Object, Program}
+use Rattle.gl_plain.specs.declared.driver_calls.DriverCall.TheVariants.{Object, Program, Draw}
+use Rattle.gl_plain.specs.declared.driver_calls.DrawDriver.{DrawDriver}
+use Rattle.gl_plain.specs.declared.driver_calls.DrawDriver.TheVariants.{SetRaster}
 use Rattle.gl_plain.specs.declared.driver_calls.ObjectDriver.TheVariants.{GenBuffer, BufferData}
 use Rattle.gl_plain.specs.declared.driver_calls.ProgramDriver.TheVariants.{CreateShader, CreateProgram, CompileShader, LinkProgram, ValidateProgram}
 use Rattle.gl_plain.specs.declared.driver_calls.Stored.{Stored}
 use Rattle.gl_plain.specs.declared.driver_calls.Stored.TheVariants as room
 use Rattle.gl_plain.specs.CommonLines.{are_sound_answers}
 use Rattle.gl_plain.specs.State.{DriverTables, DriverState, opening_driver, opening_tables}
-use Rattle.gl_plain.specs.driver.Answers.{IsAnswer, IsStored, answer_to, behind_call, behind_entries, stored_answer, told}
+use Rattle.gl_plain.specs.driver.Answers.{IsAnswer, IsDrawingAnswer, IsStored, drawing_answer, answer_to, behind_call, behind_entries, stored_answer, told}
 use Rattle.gl_plain.specs.driver.Allowed.{IsAllowed}
-use Rattle.gl_plain.specs.driver.Effect.{after_buffer_data, tables_after}
+use Rattle.gl_plain.specs.driver.Effect.{after_buffer_data, after_drawing, tables_after}
 use Rattle.gl_plain.specs.Journal.{IsLegalEntry, state_after}
 use Rattle.gl_plain.specs.Oracle.{Oracle, first, answers_of, stored_at, compile_in, link_in, validate_in}
 use Rattle.gl_plain.proofs.Journals.{state_after-append, IsLegal-append}
@@ -30,13 +32,17 @@ use Rattle.strict_driver.specs.declared.strict.StrictDriver.TheInside.{Inside}
 use Rattle.strict_driver.specs.StrictInside.{view_of, IsStrict, IsStrictJournal, IsCounted, IsInStep}
 use Rattle.strict_driver.specs.StrictHistory.{history_of, answers_left, Continues}
 use Rattle.strict_driver.specs.TableState.{Follow, left_by, state_of}
-use Rattle.strict_driver.proofs.Answered.{behind_entries-append, AreAnsweredBy-append, told_behind}
+use Rattle.strict_driver.proofs.Answered.{behind_entries-append, AreAnsweredBy-append, drawing_asks_nothing, told_behind}
 use Rattle.strict_driver.proofs.NamesGiven.{next_is_fresh, up_to_next}
 use Rattle.strict_driver.proofs.Sound.{compile_sound, link_sound, validate_sound}
 
 is_stored : (s : Stored) → IsStored (stored_answer s)
 is_stored room.Done = tt
 is_stored room.Oom = tt
+
+is_drawing_answer : (call : DrawDriver) → IsDrawingAnswer call (drawing_answer call)
+is_drawing_answer (SetRaster number words) = tt
+is_drawing_answer call = tt
 
 -- the next answer is of the form of its call
 pub next_fits : (d : DriverState) (loaded : Answers) (n : Counts) (call : DriverCall) → IsTrue (are_sound_answers loaded) → d.tables.given ≡ given_by n → IsAnswer d call (answer_to (answers_from loaded n) call)
@@ -49,6 +55,7 @@ next_fits d loaded n (Program (CompileShader name)) sound is = compile_sound loa
 next_fits d loaded n (Program (LinkProgram name)) sound is = link_sound loaded sound (n.links + 0)
 next_fits d loaded n (Program (ValidateProgram name)) sound is = validate_sound loaded sound (n.validates + 0)
 next_fits d loaded n (Program call) sound is = tt
+next_fits d loaded n (Draw call) sound is = is_drawing_answer call
 
 module _ (t : DriverTables) (loaded : Answers) (n n2 : Counts) (is : t.given ≡ given_by n) where
   -- so many names of each kind were given
@@ -58,6 +65,10 @@ module _ (t : DriverTables) (loaded : Answers) (n n2 : Counts) (is : t.given ≡
   stored_gives : (target : _) (bytes : List ℕ) (usage : _) (s : Stored) → (after_buffer_data t target bytes usage (stored_answer s)).given ≡ t.given
   stored_gives target bytes usage room.Done = refl
   stored_gives target bytes usage room.Oom = refl
+
+  drawing_gives : (call : DrawDriver) → (after_drawing t call).given ≡ t.given
+  drawing_gives (SetRaster number words) = refl
+  drawing_gives call = refl
 
   one_more_buffer : n2.buffers ≡ n.buffers + 1 → n2.programs ≡ n.programs → record t.given { buffers = set.insert t.given.buffers (n.buffers + 1 + 0) } ≡ given_by n2
   one_more_buffer b p =
@@ -99,6 +110,9 @@ module _ (t : DriverTables) (loaded : Answers) (n n2 : Counts) (is : t.given ≡
   given_more (Program call) counted =
       let now = counts_are n.buffers n.programs (behind_call (Program call) (answers_from loaded n)) counted (omega arith) (omega arith) in
       none_more now.0 now.1
+  given_more (Draw call) counted =
+      let now = counts_are n.buffers n.programs (answers_from loaded n) (counted ∙ drawing_asks_nothing call (answers_from loaded n)) (omega arith) (omega arith) in
+      drawing_gives call ∙ none_more now.0 now.1
 
 module _ (js now : List DriverEntry) (n n2 : Counts) (loaded : Answers) (call : DriverCall) (answer : Answer) (is : now ≡ js ++ (record { call = call; answer = answer }) ∷ [])
     (counted : answers_from loaded n2 ≡ behind_call call (answers_from loaded n)) (was : IsCounted js n loaded) (next : answer ≡ answer_to (behind_entries js (answers_of loaded)) call) where

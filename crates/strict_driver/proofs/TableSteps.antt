@@ -2,7 +2,9 @@
 use Rattle.std.proofs.Common.{◌≡◌, List, [], ◌∷◌, ◌++◌, refl, sym, ◌∙◌, ap, subst, append_assoc, append-nil}
 use Rattle.gl_plain.specs.declared.driver_calls.Answer.{Answer}
 use Rattle.gl_plain.specs.declared.driver_calls.Answer.TheVariants.{Name, Compile, Link, Validate}
-use Rattle.gl_plain.specs.declared.driver_calls.DriverCall.TheVariants.{Object, Program}
+use Rattle.gl_plain.specs.declared.driver_calls.DriverCall.TheVariants.{Object, Program, Draw}
+use Rattle.gl_plain.specs.declared.driver_calls.DrawDriver.{DrawDriver}
+use Rattle.gl_plain.specs.declared.driver_calls.DrawDriver.TheVariants.{SetRaster}
 use Rattle.gl_plain.specs.declared.driver_calls.DriverEntry.{DriverEntry}
 use Rattle.gl_plain.specs.declared.driver_calls.ObjectDriver.{ObjectDriver}
 use Rattle.gl_plain.specs.declared.driver_calls.ObjectDriver.TheVariants.{GenBuffer}
@@ -11,7 +13,7 @@ use Rattle.gl_plain.specs.declared.driver_calls.ProgramDriver.TheVariants.{Creat
 use Rattle.gl_plain.specs.State.{DriverTables, DriverState}
 use Rattle.gl_plain.specs.driver.Allowed.{IsObjectAllowed}
 use Rattle.gl_plain.specs.driver.Answers.{IsObjectAnswer}
-use Rattle.gl_plain.specs.driver.Effect.{after_object, after_create, after_compile, after_link, after_validate, after_program}
+use Rattle.gl_plain.specs.driver.Effect.{after_object, after_create, after_compile, after_link, after_validate, after_program, after_drawing}
 use Rattle.gl_plain.specs.subjects.Images.{Contents}
 use Rattle.gl_plain.specs.subjects.Programs.{create_shader_effect, create_program_effect}
 use Rattle.strict_driver.specs.declared.tables.Tables.{Tables}
@@ -69,6 +71,14 @@ module _ (js : List DriverEntry) (kept : Tables) where
   pub program_steps : (t : DriverTables) (call : ProgramDriver) (answer : Answer) → state_of t js kept ≡ t → state_of (after_program t call answer) js kept ≡ after_program t call answer
   program_steps t call answer is = kept_same t call answer ∙ ap (λ (u : DriverTables). after_program u call answer) is
 
+  kept_beside : (t : DriverTables) (call : DrawDriver) → state_of (after_drawing t call) js kept ≡ after_drawing (state_of t js kept) call
+  kept_beside t (SetRaster number words) = refl
+  kept_beside t call = refl
+
+  -- and so does one on the fixed state, or one that clears or draws
+  pub drawing_steps : (t : DriverTables) (call : DrawDriver) → state_of t js kept ≡ t → state_of (after_drawing t call) js kept ≡ after_drawing t call
+  drawing_steps t call is = kept_beside t call ∙ ap (λ (u : DriverTables). after_drawing u call) is
+
 module _ (t : DriverTables) (js : List DriverEntry) (kept : Tables) where
   -- with nothing behind the journal
   pub at_once : Follow t js kept → state_of t js kept ≡ t
@@ -84,6 +94,9 @@ module _ (t : DriverTables) (js : List DriverEntry) (kept : Tables) where
   abbrev program_entry : ProgramDriver → Answer → DriverEntry
   program_entry call answer = record { call = Program call; answer = answer }
 
+  abbrev drawing_entry : DrawDriver → Answer → DriverEntry
+  drawing_entry call answer = record { call = Draw call; answer = answer }
+
   -- the tables follow a call on objects
   pub object_follows : (now : Tables) (call : ObjectDriver) (answer : Answer) → Follow t js kept
       → ((u : DriverTables) (more : List DriverEntry) → state_of u (js ++ object_entry call answer ∷ more) now ≡ after_object (state_of u (js ++ object_entry call answer ∷ more) kept) call answer) → Follow (after_object t call answer) (js ++ object_entry call answer ∷ []) now
@@ -96,3 +109,9 @@ module _ (t : DriverTables) (js : List DriverEntry) (kept : Tables) where
   program_follows call answer follow more =
       let e = program_entry call answer in
       ap (λ (j : List DriverEntry). state_of (after_program t call answer) j kept) (append_assoc js (e ∷ []) more) ∙ program_steps (js ++ e ∷ more) kept t call answer (follow (e ∷ more))
+
+  -- and one on the fixed state, or one that clears or draws, as they are
+  pub drawing_follows : (call : DrawDriver) (answer : Answer) → Follow t js kept → Follow (after_drawing t call) (js ++ drawing_entry call answer ∷ []) kept
+  drawing_follows call answer follow more =
+      let e = drawing_entry call answer in
+      ap (λ (j : List DriverEntry). state_of (after_drawing t call) j kept) (append_assoc js (e ∷ []) more) ∙ drawing_steps (js ++ e ∷ more) kept t call (follow (e ∷ more))

@@ -2,7 +2,7 @@
 use Rattle.std.specs.Prelude.{ℕ, List, [], slice_get, Option, None, Some}
 use Rattle.gl_plain.specs.declared.objects.Buffer.{Buffer}
 use Rattle.gl_plain.specs.declared.driver_calls.DriverCall.{DriverCall}
-use Rattle.gl_plain.specs.declared.driver_calls.DriverCall.TheVariants.{Object, Program}
+use Rattle.gl_plain.specs.declared.driver_calls.DriverCall.TheVariants.{Object, Program, Draw}
 use Rattle.gl_plain.specs.declared.driver_calls.DriverEntry.{DriverEntry}
 use Rattle.gl_plain.specs.declared.driver_calls.ObjectDriver.{ObjectDriver}
 use Rattle.gl_plain.specs.declared.driver_calls.ObjectDriver.TheVariants.{GenBuffer, BindBuffer, BufferData, BufferSubData, DeleteBuffer, VertexAttrib4, VertexAttribPointer, SetArray}
@@ -28,6 +28,7 @@ bytes_given (SetArray index on) = []
 abbrev pub bytes_stored : DriverCall → List ℕ
 bytes_stored (Object call) = bytes_given call
 bytes_stored (Program call) = []
+bytes_stored (Draw call) = []
 
 -- the bytes that an entry stores, if there is one
 abbrev pub entry_bytes : Option DriverEntry → List ℕ

@@ -6,8 +6,8 @@ use Rattle.gl_plain.specs.Journal.{state_after}
 use Rattle.strict_driver.specs.declared.tables.Tables.{Tables}
 use Rattle.strict_driver.specs.KeptBuffers.{buffers_of}
 
--- Tables of a driver with the surface, the buffers, the attributes, and the names of buffers that are kept. Of shaders and programs nothing is
--- kept, since no answer depends on them: they are as they were.
+-- Tables of a driver with the surface, the buffers, the attributes, and the names of buffers that are kept. Of shaders and programs, and of the
+-- fixed state, nothing is kept, since no answer depends on them: they are as they were.
 abbrev pub state_of : DriverTables → List DriverEntry → Tables → DriverTables
 state_of t journal kept = record t {
   surface = kept.surface;

@@ -37,7 +37,8 @@ impl Counts {
         }
     }
 
-    /// The counts after a call, or none past the end of their type.
+    /// The counts after a call, or none past the end of their type. A call on the fixed state, or one that clears or draws, asks nothing.
+    #[tactic(auto, using(crate::proofs::Answered::drawing_asks_nothing))]
     pub fn after(self, call: &DriverCall) -> Option<Counts>
         ensures some { IfSome result (λ counts. (loaded : Answers) → answers_from loaded counts ≡ behind_call call.now (answers_from loaded self)) }
         ensures none { IfNone result (HasLast self) }
@@ -45,6 +46,7 @@ impl Counts {
         match call {
             DriverCall::Object(call) => self.after_object(call),
             DriverCall::Program(call) => self.after_program(call),
+            DriverCall::Draw(_) => Some(self),
         }
     }
 

@@ -21,8 +21,8 @@ use gl_base::GlEnum;
 use gl_base::limits::DEFAULT_SURFACE;
 use gl_driver::{Driver, DriverStop, Stored};
 use gl_plain::{
-    Answer, Answers, Bytes, DriverCall, DriverEntry, EntryList, LinkAnswer, ObjectDriver,
-    ProgramDriver, Verdict, Words,
+    Answer, Answers, Bytes, DrawDriver, DriverCall, DriverEntry, EntryList, LinkAnswer,
+    ObjectDriver, ProgramDriver, Verdict, Words,
 };
 use std::alloc::{AllocError, Global};
 use std::marker::Model;
@@ -503,6 +503,57 @@ impl Driver for StrictDriver {
             bytes,
         };
         self.enter(DriverCall::Program(call), Answer::Done)
+    }
+
+    fn set_raster(&mut self, number: u32, words: &[u32]) -> Result<(), DriverStop> {
+        self.ready()?;
+        let Ok(words) = Words::from_slice(self.alloc, words) else {
+            return Err(self.stop());
+        };
+        let call = DrawDriver::SetRaster { number, words };
+        self.enter(DriverCall::Draw(call), Answer::Done)
+    }
+
+    fn clear(&mut self, mask: u32) -> Result<(), DriverStop> {
+        self.ready()?;
+        let call = DrawDriver::Clear { mask };
+        self.enter(DriverCall::Draw(call), Answer::Done)
+    }
+
+    fn draw_arrays(
+        &mut self,
+        mode: GlEnum,
+        first: i32,
+        count: i32,
+        black: u32,
+    ) -> Result<(), DriverStop> {
+        self.ready()?;
+        let call = DrawDriver::DrawArrays {
+            mode,
+            first,
+            count,
+            black,
+        };
+        self.enter(DriverCall::Draw(call), Answer::Done)
+    }
+
+    fn draw_elements(
+        &mut self,
+        mode: GlEnum,
+        count: i32,
+        kind: GlEnum,
+        offset: u32,
+        black: u32,
+    ) -> Result<(), DriverStop> {
+        self.ready()?;
+        let call = DrawDriver::DrawElements {
+            mode,
+            count,
+            kind,
+            offset,
+            black,
+        };
+        self.enter(DriverCall::Draw(call), Answer::Done)
     }
 
     ghost grown_itself = { continues_itself };

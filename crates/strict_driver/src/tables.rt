@@ -1,18 +1,23 @@
-//! The state tables that a driver keeps. Of shaders and programs it keeps nothing, since no answer depends on them.
-ghost use Rattle.std.specs.Prelude.{List, ◌≡◌, [], ◌∷◌, ◌++◌, OnOk, false};
+//! The state tables that a driver keeps. Of shaders and programs, of the fixed state and of the contents of images it keeps nothing, since no
+//! answer depends on them.
+ghost use Rattle.std.specs.Prelude.{List, ◌≡◌, [], ◌∷◌, ◌++◌, IsSome, None, OnOk, false};
 ghost use Rattle.gl_plain.specs.declared.driver_calls.Answer.TheVariants as answers;
 ghost use Rattle.gl_plain.specs.declared.driver_calls.DriverCall.TheVariants.{Object};
 ghost use Rattle.gl_plain.specs.declared.driver_calls.DriverEntry.{DriverEntry};
 ghost use Rattle.gl_plain.specs.driver.Allowed.{IsAllowed, IsObjectAllowed};
 ghost use Rattle.gl_plain.specs.driver.Answers.{IsAnswer, IsNewName, IsObjectAnswer};
-ghost use Rattle.gl_plain.specs.driver.Effect.{after_gen, after_object, driver_after};
+ghost use Rattle.gl_plain.specs.driver.Effect.{after_buffer_data, after_gen, after_object, driver_after};
+ghost use Rattle.gl_plain.specs.declared.driver_calls.ObjectDriver.TheVariants.{BufferSubData, DeleteBuffer, VertexAttribPointer};
+ghost use Rattle.gl_plain.specs.subjects.Attributes.{vertex_attrib_pointer_refusal};
 ghost use Rattle.gl_plain.specs.subjects.Attributes as subject;
+ghost use Rattle.gl_plain.specs.subjects.Buffers.{IsBufferSubDataAllowed, bound};
 ghost use Rattle.gl_plain.specs.subjects.Images.{opening_contents};
+ghost use Rattle.gl_plain.specs.subjects.Names.{IsLive};
 ghost use Rattle.gl_plain.specs.Spaces as space;
 ghost use Rattle.gl_plain.specs.State.{DriverTables, opening_tables};
 ghost use Rattle.gl_plain.specs.Words.{is_negative};
 ghost use Rattle.gl_plain.specs.Words as words;
-ghost use Rattle.strict_driver.specs.KeptBuffers.{buffers_of};
+ghost use Rattle.strict_driver.specs.KeptBuffers.{buffers_of, bytes_at};
 ghost use Rattle.strict_driver.specs.TableState.{Follow, left_by, state_of};
 
 use crate::buffers::Buffers;
@@ -90,6 +95,7 @@ impl Tables {
         match call {
             DriverCall::Object(call) => self.apply_object(journal, call, answer),
             DriverCall::Program(_) => Ok(()),
+            DriverCall::Draw(_) => Ok(()),
         }
     }
 
@@ -109,21 +115,15 @@ impl Tables {
         match call {
             ObjectDriver::GenBuffer => self.give(answer)?,
             ObjectDriver::BindBuffer { target, name } => self.buffers.bind(*target, *name)?,
-            ObjectDriver::BufferData { target, usage, .. } => match answer {
-                Answer::Done => self.buffers.store(*target, journal.len(), *usage),
-                _ => {}
-            },
+            ObjectDriver::BufferData { target, usage, .. } => {
+                self.store(*target, journal.len(), *usage, answer);
+            }
             ObjectDriver::BufferSubData {
                 target,
                 offset,
                 bytes,
-            } => self
-                .buffers
-                .change(journal, *target, natural(*offset), bytes.as_slice())?,
-            ObjectDriver::DeleteBuffer { name } => {
-                self.buffers.delete(*name);
-                self.attributes.unbind_buffer(*name);
-            }
+            } => self.change(journal, *target, *offset, bytes.as_slice())?,
+            ObjectDriver::DeleteBuffer { name } => self.delete(*name),
             ObjectDriver::VertexAttrib4 { index, values } => {
                 self.attributes.set_constant(*index, *values);
             }
@@ -134,13 +134,66 @@ impl Tables {
                 normalized,
                 stride,
                 offset,
-            } => {
-                let array = self.array_of(*size, *kind, *normalized, *stride, *offset);
-                self.attributes.set_array(*index, array);
-            }
+            } => self.point(*index, *size, *kind, *normalized, *stride, *offset),
             ObjectDriver::SetArray { index, on } => self.attributes.set_enabled(*index, *on),
         }
         Ok(())
+    }
+
+    /// Gives the buffer that the target binds the bytes that the entry at this place stores, where there was room for them.
+    fn store(&mut self, target: GlEnum, place: usize, usage: GlEnum, answer: &Answer)
+        requires { IsSome (bound (buffers_of [] self.old.buffers) target) }
+        ensures state { (t : DriverTables) (js : List DriverEntry) → state_of t js self.new ≡ after_buffer_data (state_of t js self.old) target (bytes_at js place) usage answer.now }
+        ensures surface { self.new.surface ≡ self.old.surface }
+    {
+        match answer {
+            Answer::Done => self.buffers.store(target, place, usage),
+            _ => {}
+        }
+    }
+
+    /// Puts bytes in place of those of the buffer that the target binds, from an offset on.
+    fn change(
+        &mut self,
+        journal: &[DriverEntry],
+        target: GlEnum,
+        offset: i32,
+        bytes: &[u8],
+    ) -> Result<(), AllocError>
+        requires allowed { IsBufferSubDataAllowed (buffers_of journal.now self.old.buffers) target offset bytes.now }
+        requires settled { (more : List DriverEntry) → buffers_of (journal.now ++ more) self.old.buffers ≡ buffers_of journal.now self.old.buffers }
+        ensures ok { OnOk result ((t : DriverTables) (more : List DriverEntry) → let js = journal.now ++ more in state_of t js self.new ≡ after_object (state_of t js self.old) (BufferSubData target offset bytes.now) answers.Done) }
+        ensures surface { self.new.surface ≡ self.old.surface }
+    {
+        self.buffers.change(journal, target, natural(offset), bytes)
+    }
+
+    /// Deletes a live buffer, in which no array lies from then on.
+    fn delete(&mut self, name: u64)
+        requires { IsLive self.old.buffers.names.names name }
+        ensures state { (t : DriverTables) (js : List DriverEntry) → state_of t js self.new ≡ after_object (state_of t js self.old) (DeleteBuffer name) answers.Done }
+        ensures surface { self.new.surface ≡ self.old.surface }
+    {
+        self.buffers.delete(name);
+        self.attributes.unbind_buffer(name);
+    }
+
+    /// Sets the array of an attribute, which lies in the buffer that ARRAY_BUFFER binds.
+    fn point(
+        &mut self,
+        index: u32,
+        size: i32,
+        kind: GlEnum,
+        normalized: bool,
+        stride: i32,
+        offset: u32,
+    )
+        requires { vertex_attrib_pointer_refusal index size kind stride ≡ None }
+        ensures state { (t : DriverTables) (js : List DriverEntry) → state_of t js self.new ≡ after_object (state_of t js self.old) (VertexAttribPointer index size kind normalized stride offset) answers.Done }
+        ensures surface { self.new.surface ≡ self.old.surface }
+    {
+        let array = self.array_of(size, kind, normalized, stride, offset);
+        self.attributes.set_array(index, array);
     }
 
     /// Gives a new name to a buffer.

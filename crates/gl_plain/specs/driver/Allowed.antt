@@ -5,7 +5,9 @@ use Rattle.gl_base.specs.declared.limits.TheConstants.{LAST_ATTRIBUTE, NAME_LENG
 use Rattle.gl_plain.specs.declared.driver_calls.ObjectDriver.{ObjectDriver}
 use Rattle.gl_plain.specs.declared.driver_calls.ObjectDriver.TheVariants.{GenBuffer, BindBuffer, BufferData, BufferSubData, DeleteBuffer, VertexAttrib4, VertexAttribPointer, SetArray}
 use Rattle.gl_plain.specs.declared.driver_calls.DriverCall.{DriverCall}
-use Rattle.gl_plain.specs.declared.driver_calls.DriverCall.TheVariants.{Object, Program}
+use Rattle.gl_plain.specs.declared.driver_calls.DriverCall.TheVariants.{Object, Program, Draw}
+use Rattle.gl_plain.specs.declared.driver_calls.DrawDriver.{DrawDriver}
+use Rattle.gl_plain.specs.declared.driver_calls.DrawDriver.TheVariants.{SetRaster, Clear, DrawArrays, DrawElements}
 use Rattle.gl_plain.specs.declared.driver_calls.ProgramDriver.{ProgramDriver}
 use Rattle.gl_plain.specs.declared.driver_calls.ProgramDriver.TheVariants.{CreateShader, CreateProgram, DeleteShader, DeleteProgram, ShaderSource, CompileShader, AttachShader, DetachShader, BindAttribLocation, LinkProgram, ValidateProgram, UseProgram, Uniform}
 use Rattle.gl_plain.specs.declared.programs.Program as programs
@@ -14,7 +16,10 @@ use Rattle.gl_plain.specs.subjects.Buffers.{IsBindBufferAllowed, IsBufferDataAll
 use Rattle.gl_plain.specs.subjects.Attributes.{vertex_attrib_pointer_refusal}
 use Rattle.gl_plain.specs.subjects.Programs.{ProgramTables, is_shader_kind, attach_refusal_by, detach_refusal_by, is_built_in, can_link, is_linked}
 use Rattle.gl_plain.specs.subjects.Uniforms.{IsUniformAllowed}
-use Rattle.gl_plain.specs.State.{DriverTables, DriverState}
+use Rattle.gl_plain.specs.subjects.Raster.{IsSetRasterAllowed}
+use Rattle.gl_plain.specs.subjects.Clears.{IsClearAllowed}
+use Rattle.gl_plain.specs.subjects.Draws.{Sources, check_arrays, check_indexed, IsDrawAllowed}
+use Rattle.gl_plain.specs.State.{DriverTables, DriverState, sources_in}
 
 -- a call on objects may be made with these tables: names are live, data and attributes are those that OpenGL ES takes (sections 2.7 to 2.9)
 abbrev pub IsObjectAllowed : DriverTables → ObjectDriver → Type 0
@@ -49,7 +54,16 @@ IsProgramAllowed t (ValidateProgram name) = is_linked (map.get t.programs name) 
 IsProgramAllowed t (UseProgram name) = (name ≡ 0) ⊎ (is_linked (map.get t.programs name) ≡ true)
 IsProgramAllowed t (Uniform location kind count bytes) = IsUniformAllowed t.installed location kind count bytes
 
+-- a call on the fixed state takes words as they are kept; one that clears or draws is that of a call of OpenGL ES that is not refused and does
+-- something, and all images that it writes were written (sections 2.8, 4.2.3 and 4.4.5)
+abbrev pub IsDrawingAllowed : DriverState → DrawDriver → Type 0
+IsDrawingAllowed d (SetRaster number words) = IsSetRasterAllowed number words
+IsDrawingAllowed d (Clear mask) = IsClearAllowed mask d.contents.screen
+IsDrawingAllowed d (DrawArrays mode first count black) = IsDrawAllowed (check_arrays (sources_in d.tables) mode first count) black d.contents.screen
+IsDrawingAllowed d (DrawElements mode count kind offset black) = IsDrawAllowed (check_indexed (sources_in d.tables) mode count kind offset) black d.contents.screen
+
 -- the call may be made in this state
 abbrev pub IsAllowed : DriverState → DriverCall → Type 0
 IsAllowed d (Object call) = IsObjectAllowed d.tables call
 IsAllowed d (Program call) = IsProgramAllowed d.tables.programs call
+IsAllowed d (Draw call) = IsDrawingAllowed d call

@@ -9,7 +9,9 @@ use Rattle.gl_plain.specs.declared.driver_calls.Stored.TheVariants as room
 use Rattle.gl_plain.specs.declared.driver_calls.ObjectDriver.{ObjectDriver}
 use Rattle.gl_plain.specs.declared.driver_calls.ObjectDriver.TheVariants.{GenBuffer, BindBuffer, BufferData, BufferSubData, DeleteBuffer, VertexAttrib4, VertexAttribPointer, SetArray}
 use Rattle.gl_plain.specs.declared.driver_calls.DriverCall.{DriverCall}
-use Rattle.gl_plain.specs.declared.driver_calls.DriverCall.TheVariants.{Object, Program}
+use Rattle.gl_plain.specs.declared.driver_calls.DriverCall.TheVariants.{Object, Program, Draw}
+use Rattle.gl_plain.specs.declared.driver_calls.DrawDriver.{DrawDriver}
+use Rattle.gl_plain.specs.declared.driver_calls.DrawDriver.TheVariants.{SetRaster, Clear, DrawArrays, DrawElements}
 use Rattle.gl_plain.specs.declared.driver_calls.ProgramDriver.{ProgramDriver}
 use Rattle.gl_plain.specs.declared.driver_calls.ProgramDriver.TheVariants.{CreateShader, CreateProgram, DeleteShader, DeleteProgram, ShaderSource, CompileShader, AttachShader, DetachShader, BindAttribLocation, LinkProgram, ValidateProgram, UseProgram, Uniform}
 use Rattle.gl_plain.specs.declared.driver_calls.DriverEntry.{DriverEntry}
@@ -100,10 +102,18 @@ IsProgramAnswer d (ValidateProgram name) answer = IsValidated answer
 IsProgramAnswer d (UseProgram name) answer = IsDone answer
 IsProgramAnswer d (Uniform location kind count bytes) answer = IsDone answer
 
+-- a call on the fixed state, or one that clears or draws, only says that it was done
+abbrev pub IsDrawingAnswer : DrawDriver → Answer → Type 0
+IsDrawingAnswer (SetRaster number words) answer = IsDone answer
+IsDrawingAnswer (Clear mask) answer = IsDone answer
+IsDrawingAnswer (DrawArrays mode first count black) answer = IsDone answer
+IsDrawingAnswer (DrawElements mode count kind offset black) answer = IsDone answer
+
 -- the answer is of the call's form
 abbrev pub IsAnswer : DriverState → DriverCall → Answer → Type 0
 IsAnswer d (Object call) answer = IsObjectAnswer d call answer
 IsAnswer d (Program call) answer = IsProgramAnswer d call answer
+IsAnswer d (Draw call) answer = IsDrawingAnswer call answer
 
 -- a new name is the next number of its space
 abbrev pub told_number : Space → Answer → Oracle → Oracle
@@ -186,10 +196,18 @@ told_of_program (ValidateProgram name) answer o = told_validate answer o
 told_of_program (UseProgram name) answer o = o
 told_of_program (Uniform location kind count bytes) answer o = o
 
+-- and tells nothing
+abbrev pub told_drawing : DrawDriver → Oracle → Oracle
+told_drawing (SetRaster number words) o = o
+told_drawing (Clear mask) o = o
+told_drawing (DrawArrays mode first count black) o = o
+told_drawing (DrawElements mode count kind offset black) o = o
+
 -- what the answer to a call tells
 abbrev pub told_call : DriverCall → Answer → Oracle → Oracle
 told_call (Object call) answer o = told_object call answer o
 told_call (Program call) answer o = told_of_program call answer o
+told_call (Draw call) answer o = told_drawing call o
 
 -- what the entries of a journal answered, and then the answers of o
 abbrev pub told : List DriverEntry → Oracle → Oracle
@@ -228,10 +246,18 @@ program_answer o (ValidateProgram name) = Validate (first o.validate).ok (first 
 program_answer o (UseProgram name) = Done
 program_answer o (Uniform location kind count bytes) = Done
 
+-- what is answered to a call on the fixed state, or to one that clears or draws
+abbrev pub drawing_answer : DrawDriver → Answer
+drawing_answer (SetRaster number words) = Done
+drawing_answer (Clear mask) = Done
+drawing_answer (DrawArrays mode first count black) = Done
+drawing_answer (DrawElements mode count kind offset black) = Done
+
 -- what an oracle answers to a call
 abbrev pub answer_to : Oracle → DriverCall → Answer
 answer_to o (Object call) = object_answer o call
 answer_to o (Program call) = program_answer o call
+answer_to o (Draw call) = drawing_answer call
 
 -- the answers that are left behind a call on objects
 abbrev pub behind_object : ObjectDriver → Oracle → Oracle
@@ -260,10 +286,18 @@ behind_program (ValidateProgram name) o = record o { validate = behind o.validat
 behind_program (UseProgram name) o = o
 behind_program (Uniform location kind count bytes) o = o
 
+-- the answers that are left behind such a call
+abbrev pub behind_drawing : DrawDriver → Oracle → Oracle
+behind_drawing (SetRaster number words) o = o
+behind_drawing (Clear mask) o = o
+behind_drawing (DrawArrays mode first count black) o = o
+behind_drawing (DrawElements mode count kind offset black) o = o
+
 -- the answers that are left behind a call
 abbrev pub behind_call : DriverCall → Oracle → Oracle
 behind_call (Object call) o = behind_object call o
 behind_call (Program call) o = behind_program call o
+behind_call (Draw call) o = behind_drawing call o
 
 -- each entry has the answer that the oracle gives to its call, in order
 abbrev pub AreAnsweredBy : Oracle → List DriverEntry → Type 0

@@ -7,7 +7,9 @@ use Rattle.gl_plain.specs.declared.driver_calls.Answer.TheVariants.{Done, Name, 
 use Rattle.gl_plain.specs.declared.driver_calls.ObjectDriver.{ObjectDriver}
 use Rattle.gl_plain.specs.declared.driver_calls.ObjectDriver.TheVariants.{GenBuffer, BindBuffer, BufferData, BufferSubData, DeleteBuffer, VertexAttrib4, VertexAttribPointer, SetArray}
 use Rattle.gl_plain.specs.declared.driver_calls.DriverCall.{DriverCall}
-use Rattle.gl_plain.specs.declared.driver_calls.DriverCall.TheVariants.{Object, Program}
+use Rattle.gl_plain.specs.declared.driver_calls.DriverCall.TheVariants.{Object, Program, Draw}
+use Rattle.gl_plain.specs.declared.driver_calls.DrawDriver.{DrawDriver}
+use Rattle.gl_plain.specs.declared.driver_calls.DrawDriver.TheVariants.{SetRaster, Clear, DrawArrays, DrawElements}
 use Rattle.gl_plain.specs.declared.driver_calls.ProgramDriver.{ProgramDriver}
 use Rattle.gl_plain.specs.declared.driver_calls.ProgramDriver.TheVariants.{CreateShader, CreateProgram, DeleteShader, DeleteProgram, ShaderSource, CompileShader, AttachShader, DetachShader, BindAttribLocation, LinkProgram, ValidateProgram, UseProgram, Uniform}
 use Rattle.gl_plain.specs.Words.{natural}
@@ -15,6 +17,8 @@ use Rattle.gl_plain.specs.subjects.Buffers.{bind_buffer_effect, buffer_data_effe
 use Rattle.gl_plain.specs.subjects.Attributes.{vertex_attrib_4f_effect, vertex_attrib_pointer_effect, array_of, set_array_effect, all_outside}
 use Rattle.gl_plain.specs.subjects.Programs.{ProgramTables, create_shader_effect, create_program_effect, shader_source_effect, compile_shader_effect, delete_shader_effect, delete_program_effect, attach_shader_effect, detach_shader_effect, bind_attrib_location_effect, link_program_effect, validate_program_effect, use_program_effect}
 use Rattle.gl_plain.specs.subjects.Uniforms.{uniform_effect}
+use Rattle.gl_plain.specs.subjects.Raster.{raster_effect}
+use Rattle.gl_plain.specs.subjects.Clears.{cleared, drawn}
 use Rattle.gl_plain.specs.subjects.Images.{Contents}
 use Rattle.gl_plain.specs.State.{DriverTables, DriverState}
 use Rattle.gl_plain.specs.Spaces.{Space, Buffers, with_given}
@@ -105,15 +109,31 @@ after_program t (ValidateProgram name) answer = after_validate t name answer
 after_program t (UseProgram name) answer = programs_in t (use_program_effect t.programs name)
 after_program t (Uniform location kind count bytes) answer = programs_in t (uniform_effect t.programs location kind count bytes)
 
+-- the tables that a call on the fixed state, or one that clears or draws, leaves
+abbrev pub after_drawing : DriverTables → DrawDriver → DriverTables
+after_drawing t (SetRaster number words) = record t { raster = raster_effect t.raster number words }
+after_drawing t (Clear mask) = t
+after_drawing t (DrawArrays mode first count black) = t
+after_drawing t (DrawElements mode count kind offset black) = t
+
 -- the tables after a call and its answer; no contents of images change them
 abbrev pub tables_after : DriverTables → DriverCall → Answer → DriverTables
 tables_after t (Object call) answer = after_object t call answer
 tables_after t (Program call) answer = after_program t call answer
+tables_after t (Draw call) answer = after_drawing t call
+
+-- the contents that a call on the fixed state, or one that clears or draws, leaves
+abbrev pub contents_drawn : Contents → DrawDriver → Contents
+contents_drawn k (SetRaster number words) = k
+contents_drawn k (Clear mask) = cleared mask k
+contents_drawn k (DrawArrays mode first count black) = drawn k
+contents_drawn k (DrawElements mode count kind offset black) = drawn k
 
 -- the contents after a call and its answer; a call on objects, shaders and programs leaves them as they are
 abbrev pub contents_after_call : DriverState → DriverCall → Answer → Contents
 contents_after_call d (Object call) answer = d.contents
 contents_after_call d (Program call) answer = d.contents
+contents_after_call d (Draw call) answer = contents_drawn d.contents call
 
 -- the state after a call and its answer
 abbrev pub driver_after : DriverState → DriverCall → Answer → DriverState

@@ -1,6 +1,6 @@
 -- The contents of images, and the written rectangles that the service keeps of them. No calls on images are built yet, so that no image
 -- but those of the default framebuffer is there.
-use Rattle.std.specs.Prelude.{ℕ, Bool, true, false, List}
+use Rattle.std.specs.Prelude.{◌≡◌, ℕ, Bool, true, false, List}
 use Rattle.gl_base.specs.declared.rect.Rect.{Rect}
 
 -- an image of an object; there are none yet
@@ -19,10 +19,14 @@ pub data Pixel : Type 0 where
   Bytes : (bytes : List ℕ) → Pixel
   Made : (record_number : ℕ) → Pixel
 
+-- the three images of the default framebuffer, by column and row
+abbrev pub Screen : Type 0
+Screen = ScreenImage → ℕ → ℕ → Pixel
+
 -- the pixels of all images, by column and row, and how many records were made
 pub record Contents : Type 0 where
   pub images : ImagePlace → ℕ → ℕ → Pixel
-  pub screen : ScreenImage → ℕ → ℕ → Pixel
+  pub screen : Screen
   pub records : ℕ
 
 -- the rectangle that was written of each image
@@ -43,6 +47,10 @@ is_defined Undefined = false
 is_defined Zero = true
 is_defined (Bytes bytes) = true
 is_defined (Made k) = true
+
+-- no pixel of the default framebuffer was never written
+abbrev pub IsScreenWritten : Screen → Type 0
+IsScreenWritten screen = (i : ScreenImage) (x y : ℕ) → is_defined (screen i x y) ≡ true
 
 -- what was never written reads as zero
 abbrev pub read_pixel : Pixel → Pixel

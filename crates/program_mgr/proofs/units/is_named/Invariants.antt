@@ -1,6 +1,6 @@
 use Rattle.std.proofs.Common.{◌≡◌, length, drop}
 use Rattle.gl_plain.specs.subjects.Links.{words_in}
-use Rattle.program_mgr.specs.Units.{names_unit}
+use Rattle.gl_plain.specs.subjects.Draws.{names_unit}
 use Rattle.program_mgr.proofs.units.is_named.Given as goal
 
 abbrev pub invariant-loop-uniform : goal.invariant-loop-uniform

@@ -1,8 +1,10 @@
-use Rattle.std.proofs.Common.{◌≡◌, ◌==◌, ◌&&◌, ℕ, nat_lt}
-use Rattle.std.specs.Int.{bit_at}
-use Rattle.std.specs.List.{list_any}
-use Rattle.program_mgr.specs.Units.{has_location}
+use Rattle.std.proofs.Common.{◌≡◌, ◌^◌, ◌<◌}
+use Rattle.gl_plain.specs.subjects.Draws as d
 use Rattle.program_mgr.proofs.units.locations.Given as goal
 
 abbrev pub invariant-loop-location : goal.invariant-loop-location
-invariant-loop-location l = (other : ℕ) → (bit_at l.bits other == 1) ≡ (nat_lt other l.location && list_any (has_location other) l.attributes)
+invariant-loop-location l = record {
+  so_far : l.bits ≡ d.bits_below (d.is_used l.attributes) l.location;
+  below : l.bits < l.bit;
+  doubled : l.bit ≡ 2 ^ l.location;
+}

@@ -1,6 +1,7 @@
 use Rattle.std.proofs.Common.{sym, refl, ◌∙◌, Some, ap}
-use Rattle.gl_plain.specs.declared.commands.Command.TheVariants.{Noop, Bucket, Object, Query, SetToken}
+use Rattle.gl_plain.specs.declared.commands.Command.TheVariants.{Noop, Bucket, Object, Draw, Query, SetToken}
 use Rattle.decoder_core.specs.Execution.{state_of}
+use Rattle.decode_draw.specs.States.{draws_in}
 use Rattle.decode_objects.specs.States.{objects_in}
 use Rattle.decoder_core.proofs.Payloads.{readable_bucket, given_object}
 use Rattle.decoder_core.proofs.Executions.{performs_alone, performs_lawfully, does_nothing}
@@ -39,3 +40,13 @@ returns-in-Some g c =
     let before = objects_in c.args.self.now.buffers c.args.self.now.programs c.args.self.now.attribs c.args.self.now.errors in
     let after = objects_in c.execute_object.new.buffers c.execute_object.new.programs c.execute_object.new.attribs c.execute_object.new.errors in
     performs_lawfully c.args.command.now (state_of c.args.self.now) c.args.driver.now c.requires.agrees (Object c.in-Some-Object.object) c.in-Some.payload.now before after _ c.execute_object.new.driver c.execute_object.result spelled given.whole given.is refl refl c.execute_object.ensures
+
+pub execute_draw-requires : goal.execute_draw-requires
+execute_draw-requires g c = record { agrees = record { others = state_of c.args.self.now; agrees = c.requires.agrees } }
+
+pub returns-in-Some-Draw : goal.returns-in-Some-Draw
+returns-in-Some-Draw g c =
+    let before = draws_in c.args.self.now.buffers c.args.self.now.programs c.args.self.now.attribs c.args.self.now.raster c.args.self.now.errors in
+    let after = draws_in c.args.self.now.buffers c.args.self.now.programs c.args.self.now.attribs c.execute_draw.new.raster c.execute_draw.new.errors in
+    performs_lawfully c.args.command.now (state_of c.args.self.now) c.args.driver.now c.requires.agrees (Draw c.in-Some-Draw.drawing) c.args.command.now.payload before after _ c.execute_draw.new.driver c.execute_draw.result
+    (sym (rw c.in-Some-Draw.field-0-is at c.in-Some-Draw.ensures)) refl refl refl refl (c.execute_draw.ensures c.args.command.now.payload)

@@ -3,7 +3,7 @@ use Rattle.gl_plain.specs.State.{opening_tables}
 use Rattle.gl_plain.specs.subjects.Images.{opening_contents}
 use Rattle.strict_driver.specs.TableState.{left_by}
 use Rattle.strict_driver.proofs.Kept.{where_ok}
-use Rattle.strict_driver.proofs.TableSteps.{at_once, settled, allowed_alone, answered_alone, object_follows, program_follows}
+use Rattle.strict_driver.proofs.TableSteps.{at_once, settled, allowed_alone, answered_alone, object_follows, program_follows, drawing_follows}
 use Rattle.strict_driver.proofs.tables.Tables.apply.Goals as goal
 
 pub apply_object-requires-clause-allowed : goal.apply_object-requires-clause-allowed
@@ -27,3 +27,6 @@ returns-in-Object-clause-ok c =
 
 pub returns-in-Program-clause-ok : goal.returns-in-Program-clause-ok
 returns-in-Program-clause-ok c = rw c.in-Program.is (program_follows (left_by c.args.self.now.surface c.args.journal.now).tables c.args.journal.now c.args.self.now c.in-Program.field-0 c.args.answer.now c.requires.follow)
+
+pub returns-in-Draw-clause-ok : goal.returns-in-Draw-clause-ok
+returns-in-Draw-clause-ok c = rw c.in-Draw.is (drawing_follows (left_by c.args.self.now.surface c.args.journal.now).tables c.args.journal.now c.args.self.now c.in-Draw.field-0 c.args.answer.now c.requires.follow)

@@ -1,0 +1,3 @@
+-- The lemmas that proofs share.
+pub mod Drawings
+pub mod Family

@@ -1,0 +1,22 @@
+-- The state of the service with the parts that a command on the fixed state, or one that clears or draws, is lent.
+use Rattle.gl_plain.specs.declared.errors.Errors.{Errors}
+use Rattle.gl_plain.specs.subjects.Draws.{Sources}
+use Rattle.gl_plain.specs.State.{WireState}
+use Rattle.buffer_mgr.specs.declared.buffers.Buffers.{Buffers}
+use Rattle.buffer_mgr.specs.Tables.{tables}
+use Rattle.attrib_mgr.specs.declared.attribs.Attribs.{Attribs}
+use Rattle.program_mgr.specs.declared.programs.Programs.{Programs}
+use Rattle.program_mgr.specs.Tables as programs_as
+use Rattle.svc_raster.specs.declared.raster.Raster.{Raster}
+
+-- the state with this fixed state and these alignments
+abbrev pub raster_in : Raster → WireState → WireState
+raster_in r w = record w { es = record w.es { raster = r.words; alignments = r.alignments } }
+
+-- the state with all five
+abbrev pub draws_in : Buffers → Programs → Attribs → Raster → Errors → WireState → WireState
+draws_in b p a r e w = record w { es = record w.es { buffers = tables b; attribs = a.attributes; programs = programs_as.tables p; raster = r.words; alignments = r.alignments; errors = e } }
+
+-- what a draw reads of them
+abbrev pub sources : Buffers → Programs → Attribs → Sources
+sources b p a = record { buffers = (tables b).objects; element = (tables b).element; attribs = a.attributes; executable = (programs_as.tables p).installed }

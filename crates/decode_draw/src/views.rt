@@ -1,0 +1,135 @@
+//! What the rules of draws look at, taken from the tables of the service (OpenGL ES 2.0.25, sections 2.8 and 2.9.2).
+ghost use Rattle.std.specs.Prelude.{◌≡◌, length, map, None, Some};
+ghost use Rattle.gl_plain.specs.Words.{natural};
+ghost use Rattle.gl_plain.specs.subjects.Draws as draws;
+ghost use Rattle.buffer_mgr.specs.Tables.{tables};
+ghost use Rattle.decode_draw.specs.States.{sources};
+
+use attrib_mgr::Attribs;
+use buffer_mgr::Buffers;
+use draw_check::{check, is_index_kind};
+use gl_base::GlEnum;
+use gl_base::enums::{ELEMENT_ARRAY_BUFFER, FLOAT, FRAMEBUFFER_COMPLETE};
+use gl_plain::{ArraySpec, ArrayView, DrawPlan, DrawView, GlError, IndexView, VertexAttribute};
+use program_mgr::Programs;
+
+/// How many bytes an object has: none where there is none.
+fn object_size(buffers: &Buffers, object: Option<u64>) -> u32
+    ensures { result ≡ length (draws.object_bytes (tables buffers.now).objects object) }
+{
+    let Some(number) = object else {
+        return 0;
+    };
+    match buffers.object(number) {
+        Some(buffer) => buffer.size(),
+        None => 0,
+    }
+}
+
+/// The array of an attribute.
+fn array_view(buffers: &Buffers, attribute: VertexAttribute) -> ArrayView
+    ensures { result ≡ draws.array_view (tables buffers.now).objects attribute }
+{
+    let bytes = if attribute.enabled {
+        object_size(buffers, attribute.array.object)
+    } else {
+        0
+    };
+    ArrayView {
+        on: attribute.enabled,
+        spec: attribute.array,
+        bytes,
+    }
+}
+
+/// An array that is not enabled.
+const NO_ARRAY: ArrayView = ArrayView {
+    on: false,
+    spec: ArraySpec {
+        object: None,
+        size: 4,
+        kind: FLOAT,
+        normalized: false,
+        stride: 0,
+        offset: 0,
+    },
+    bytes: 0,
+};
+
+/// The arrays of all attributes.
+#[tactic(auto, using(std::proofs::lemmas::List::map_more, std::proofs::lemmas::List::take_more_set))]
+fn array_views(buffers: &Buffers, attribs: &Attribs) -> [ArrayView; 16]
+    ensures { result ≡ map (draws.array_view (tables buffers.now).objects) attribs.now.attributes.attributes }
+{
+    let attributes = attribs.all();
+    let mut views = [NO_ARRAY; 16];
+    for index in 0..views.len() {
+        views[index] = array_view(buffers, attributes[index]);
+    }
+    views
+}
+
+/// The indices of a draw of so many elements. Those of a kind that is none are not read.
+fn index_view(buffers: &Buffers, count: i32, kind: GlEnum, offset: u32) -> IndexView
+    ensures { (s : draws.Sources) → s.buffers ≡ (tables buffers.now).objects → s.element ≡ (tables buffers.now).element → result ≡ draws.index_view s (natural count) (draws.index_words kind offset) }
+{
+    let count = u32::try_from(count).unwrap_or(0);
+    let last = match buffers.bound(ELEMENT_ARRAY_BUFFER) {
+        Some(buffer) if is_index_kind(kind) => buffer.max_index(offset, count, kind),
+        _ => None,
+    };
+    IndexView { kind, last }
+}
+
+/// All that the rules look at. Framebuffer 0, which alone is there yet, is complete (section 4.4.5).
+fn draw_view(
+    buffers: &Buffers,
+    programs: &Programs,
+    attribs: &Attribs,
+    mode: GlEnum,
+    indexed: Option<IndexView>,
+) -> DrawView
+    ensures { result ≡ record (draws.draw_view (sources buffers.now programs.now attribs.now) mode None 0) { indexed = indexed } }
+{
+    DrawView {
+        mode,
+        indexed,
+        arrays: array_views(buffers, attribs),
+        used: programs.used_attributes(),
+        units: programs.unit_views(),
+        status: FRAMEBUFFER_COMPLETE,
+        program: programs.has_executable(),
+    }
+}
+
+/// Judges DrawArrays.
+pub fn check_arrays(
+    buffers: &Buffers,
+    programs: &Programs,
+    attribs: &Attribs,
+    mode: GlEnum,
+    first: i32,
+    count: i32,
+) -> Result<DrawPlan, GlError>
+    ensures { result ≡ draws.check_arrays (sources buffers.now programs.now attribs.now) mode first count }
+{
+    let view = draw_view(buffers, programs, attribs, mode, None);
+    check(&view, first, count)
+}
+
+/// Judges DrawElements.
+pub fn check_indexed(
+    buffers: &Buffers,
+    programs: &Programs,
+    attribs: &Attribs,
+    mode: GlEnum,
+    count: i32,
+    kind: GlEnum,
+    offset: u32,
+) -> Result<DrawPlan, GlError>
+    ensures { result ≡ draws.check_indexed (sources buffers.now programs.now attribs.now) mode count kind offset }
+{
+    let indices = index_view(buffers, count, kind, offset);
+    let view = draw_view(buffers, programs, attribs, mode, Some(indices));
+    check(&view, 0, count)
+}

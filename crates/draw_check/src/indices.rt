@@ -1,0 +1,36 @@
+//! The indices of a draw (OpenGL ES 2.0.25, section 2.8).
+ghost use Rattle.std.specs.Prelude.{◌≡◌, ◌<◌, ◌+◌, ◌-◌, ◌^◌};
+ghost use Rattle.gl_plain.specs.subjects.Draws as d;
+
+use gl_base::GlEnum;
+use gl_base::enums::{UNSIGNED_BYTE, UNSIGNED_SHORT};
+use gl_plain::IndexView;
+
+/// Whether indices can be of this kind: UNSIGNED_BYTE or UNSIGNED_SHORT.
+pub fn is_index_kind(kind: GlEnum) -> bool
+    ensures { result ≡ d.is_index_kind kind }
+{
+    kind == UNSIGNED_BYTE || kind == UNSIGNED_SHORT
+}
+
+/// Whether the draw has indices of a kind that is none.
+pub fn has_wrong_kind(indices: &Option<IndexView>) -> bool
+    ensures { result ≡ d.has_wrong_kind indices.now }
+{
+    match indices {
+        Some(indices) => !is_index_kind(indices.kind),
+        None => false,
+    }
+}
+
+/// The number of the last element that is drawn: the greatest index, or none where indices are missing or not inside their buffer, and
+/// without indices that of the last of so many elements.
+pub fn last_element(indices: &Option<IndexView>, first: u32, count: u32) -> Option<u32>
+    requires { first + (count - 1) < 2 ^ 32 }
+    ensures { result ≡ d.last_element indices.now first count }
+{
+    match indices {
+        Some(indices) => indices.last,
+        None => Some(first + count.saturating_sub(1)),
+    }
+}

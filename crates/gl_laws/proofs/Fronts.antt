@@ -1,0 +1,174 @@
+-- What the first of a command's driver calls record is the first of what the command records: nothing, where it is not drawn or cleared yet.
+use Rattle.std.proofs.Common.{◌≡◌, ℕ, ◌==◌, Bool, true, false, if◌then◌else◌, List, [], ◌∷◌, ◌++◌, Option, None, Some, Result, Ok, Err, refl, sym, ap, ◌∙◌, subst}
+use Rattle.std.specs.FinMap as map
+use Rattle.gl_plain.specs.declared.commands.Command.{Command}
+use Rattle.gl_plain.specs.declared.commands.Command.TheVariants.{Noop, SetToken, Bucket, Object, Draw, Query}
+use Rattle.gl_plain.specs.declared.commands.DrawCommand.{DrawCommand}
+use Rattle.gl_plain.specs.declared.commands.DrawCommand.TheVariants.{Raster, Clear, DrawArrays, DrawElements, Flush, Finish}
+use Rattle.gl_plain.specs.declared.commands.ObjectCommand.{ObjectCommand}
+use Rattle.gl_plain.specs.declared.commands.ObjectCommand.TheVariants as objects
+use Rattle.gl_plain.specs.declared.draws.DrawPlan.{DrawPlan}
+use Rattle.gl_plain.specs.declared.driver_calls.Answer.{Answer}
+use Rattle.gl_plain.specs.declared.driver_calls.DriverCall.{DriverCall}
+use Rattle.gl_plain.specs.declared.driver_calls.DriverCall.TheVariants as driver
+use Rattle.gl_plain.specs.declared.driver_calls.DriverEntry.{DriverEntry}
+use Rattle.gl_plain.specs.declared.errors.GlError.{GlError}
+use Rattle.gl_plain.specs.declared.objects.Name.{Name}
+use Rattle.gl_plain.specs.declared.programs.Program.{Program}
+use Rattle.gl_plain.specs.subjects.Images.{read_contents}
+use Rattle.gl_plain.specs.subjects.Programs.{ProgramTables, number_of, program_at}
+use Rattle.gl_plain.specs.subjects.Raster.{is_driver_raster}
+use Rattle.gl_plain.specs.subjects.Uniforms.{is_nowhere}
+use Rattle.gl_plain.specs.subjects.Draws.{Sources, check_arrays, check_indexed}
+use Rattle.gl_plain.specs.Oracle.{Oracle, default_answers}
+use Rattle.gl_plain.specs.State.{EsState, WireState, DriverState, sources_of}
+use Rattle.gl_plain.specs.Spaces.{Buffers, gen_call}
+use Rattle.gl_plain.specs.Wire.{calls_by, command_calls, command_refusal, own_calls}
+use Rattle.gl_plain.specs.Journal.{records_in, entry_after}
+use Rattle.gl_plain.specs.Parts.{calls_in}
+use Rattle.gl_plain.specs.Records.{Record, call_records, draw_records, records_by, step_records}
+use Rattle.gl_plain.specs.Agreement.{Agrees}
+use Rattle.gl_plain.specs.draw.Calls.{drawing_calls, own_draw_calls}
+use Rattle.gl_plain.specs.object.Calls.{bind_buffer_call, bind_calls, delete_object_calls, link_program_calls, validate_program_calls, own_object_calls}
+use Rattle.gl_plain.specs.subjects.Buffers.{delete_buffers_calls}
+use Rattle.gl_laws.proofs.Draws.{draw_leaves}
+
+-- these records are the first of all
+abbrev pub AreFirst : List Record → List Record → Type 0
+AreFirst made all = (rest : List Record) × (all ≡ made ++ rest)
+
+pub none_first : (all : List Record) → AreFirst [] all
+none_first all = (all, refl)
+
+-- behind no call nothing was recorded
+pub nothing_first : (d : DriverState) (es : List DriverEntry) (more : List DriverCall) (all : List Record) → calls_in es ++ more ≡ [] → AreFirst (records_in d es) all
+nothing_first d [] more all h = none_first all
+nothing_first d (e ∷ es) more all h = absurd (cc)
+
+-- Calls that record nothing
+
+abbrev IsSilent : DriverCall → Type 0
+IsSilent (driver.Object call) = Unit {0}
+IsSilent (driver.Program call) = Unit {0}
+IsSilent (driver.Draw call) = ⊥
+
+abbrev AreSilent : List DriverCall → Type 0
+AreSilent [] = Unit {0}
+AreSilent (c ∷ cs) = IsSilent c × AreSilent cs
+
+no_record : (d : DriverState) (c : DriverCall) (answer : Answer) → IsSilent c → call_records d c answer ≡ []
+no_record d (driver.Object call) answer h = refl
+no_record d (driver.Program call) answer h = refl
+no_record d (driver.Draw call) answer h = absurd h
+
+-- the first of them neither
+silent_first : (d : DriverState) (es : List DriverEntry) (more : List DriverCall) → AreSilent (calls_in es ++ more) → records_in d es ≡ []
+silent_first d [] more h = refl
+silent_first d (e ∷ es) more h = λ i. no_record d e.call e.answer h.0 i ++ silent_first (entry_after d e) es more h.1 i
+
+silent_bind : (bind : ℕ → DriverCall) → ((n : ℕ) → IsSilent (bind n)) → (id : ℕ) (o : Oracle) (x : Option Name) → AreSilent (bind_calls Buffers bind id o x)
+silent_bind bind silent id o (Some x) = (silent x.number, tt)
+silent_bind bind silent id o None = elim (id == 0) as (λ b. AreSilent (if b then bind 0 ∷ [] else gen_call Buffers ∷ bind (o.buffers 0) ∷ [])) [
+  | true ↦ (silent 0, tt)
+  | false ↦ (tt, (silent (o.buffers 0), tt))
+]
+
+silent_if : (b : Bool) (c : DriverCall) → IsSilent c → AreSilent (if b then c ∷ [] else [])
+silent_if true c h = (h, tt)
+silent_if false c h = tt
+
+silent_unless : (b : Bool) (c : DriverCall) → IsSilent c → AreSilent (if b then [] else c ∷ [])
+silent_unless true c h = tt
+silent_unless false c h = (h, tt)
+
+silent_delete : (x : Option Name) → AreSilent (delete_buffers_calls x)
+silent_delete None = tt
+silent_delete (Some x) = (tt, tt)
+
+silent_link : (t : ProgramTables) (number : ℕ) (p : Option Program) → AreSilent (link_program_calls t number p)
+silent_link t number None = tt
+silent_link t number (Some p) = silent_if _ _ tt
+
+silent_validate : (number : ℕ) (p : Option Program) → AreSilent (validate_program_calls number p)
+silent_validate number None = tt
+silent_validate number (Some p) = silent_if _ _ tt
+
+-- the calls of the commands on objects, shaders and programs
+objects_silent : (s : EsState) (c : ObjectCommand) (payload : List ℕ) (o : Oracle) → AreSilent (own_object_calls s c payload o)
+objects_silent s (objects.BindBuffer target id) payload o = silent_bind (bind_buffer_call target) (λ n. tt) id o (map.get s.buffers.names id)
+objects_silent s (objects.DeleteBuffers id) payload o = silent_delete (map.get s.buffers.names id)
+objects_silent s (objects.DeleteShader shader) payload o = silent_unless (shader == 0) _ tt
+objects_silent s (objects.DeleteProgram program) payload o = silent_unless (program == 0) _ tt
+objects_silent s (objects.LinkProgram program) payload o = silent_link s.programs (number_of s.programs program) (program_at s.programs program)
+objects_silent s (objects.ValidateProgram program) payload o = silent_validate (number_of s.programs program) (program_at s.programs program)
+objects_silent s (objects.Uniform location kind count transpose words) payload o = silent_unless (is_nowhere location) _ tt
+objects_silent s c payload o = (tt, tt)
+
+-- Calls that draw and clear
+
+-- there is at most one
+abbrev AreFew : List DriverCall → Type 0
+AreFew calls = (x : DriverCall) (xs : List DriverCall) → x ∷ xs ≡ calls → xs ≡ []
+
+few_if : (b : Bool) (c : DriverCall) → AreFew (if b then c ∷ [] else [])
+few_if true c x xs h = cc
+few_if false c x xs h = absurd (cc)
+
+few_unless : (b : Bool) (c : DriverCall) → AreFew (if b then [] else c ∷ [])
+few_unless true c x xs h = absurd (cc)
+few_unless false c x xs h = cc
+
+few_drawing : (call : ℕ → DriverCall) (r : Result DrawPlan GlError) → AreFew (drawing_calls call r)
+few_drawing call (Err e) x xs h = absurd (cc)
+few_drawing call (Ok plan) x xs h = few_if plan.draw (call plan.black) x xs h
+
+draws_few : (s : Sources) (c : DrawCommand) → AreFew (own_draw_calls s c)
+draws_few s (Raster number words) = few_if (is_driver_raster number) _
+draws_few s (Clear mask) = few_unless (mask == 0) _
+draws_few s (DrawArrays mode first count) = few_drawing _ (check_arrays s mode first count)
+draws_few s (DrawElements mode count kind offset) = few_drawing _ (check_indexed s mode count kind offset)
+draws_few s Flush = λ x xs h. absurd (cc)
+draws_few s Finish = λ x xs h. absurd (cc)
+
+no_more : (xs ys : List DriverCall) → xs ++ ys ≡ [] → ys ≡ []
+no_more [] ys h = h
+no_more (x ∷ xs) ys h = absurd (cc)
+
+append_none : (xs ys : List DriverCall) → ys ≡ [] → xs ≡ xs ++ ys
+append_none [] ys h = sym h
+append_none (x ∷ xs) ys h = ap (λ (z : List DriverCall). x ∷ z) (append_none xs ys h)
+
+append_no_record : (made : List Record) → made ≡ made ++ []
+append_no_record [] = refl
+append_no_record (r ∷ made) = ap (λ (z : List Record). r ∷ z) (append_no_record made)
+
+module _ (w : WireState) (d : DriverState) (a : Agrees w d) where
+  draw_first : (c : DrawCommand) (es : List DriverEntry) (more : List DriverCall) → calls_in es ++ more ≡ own_draw_calls (sources_of w.es) c → AreFirst (records_in d es) (draw_records w.es c (read_contents d.contents))
+  draw_first c [] more h = none_first _
+  draw_first c (e ∷ es) more h =
+      let none : more ≡ [] = no_more (calls_in es) more (draws_few (sources_of w.es) c e.call (calls_in es ++ more) h) in
+      let whole : calls_in (e ∷ es) ≡ own_draw_calls (sources_of w.es) c = append_none (calls_in (e ∷ es)) more none ∙ h in
+      ([], sym (draw_leaves w.es d a.tables a.images.screen c default_answers (e ∷ es) whole).records ∙ append_no_record (records_in d (e ∷ es)))
+
+  -- the calls of a command that is not refused
+  own_first : (c : Command) (payload : List ℕ) (o : Oracle) (es : List DriverEntry) (more : List DriverCall) → calls_in es ++ more ≡ own_calls w c payload o → (rest : Oracle) → AreFirst (records_in d es) (records_by None w.es c payload rest (read_contents d.contents))
+  own_first (Object c) payload o es more h rest =
+      let none : records_in d es ≡ [] = silent_first d es more (subst AreSilent (sym h) (objects_silent w.es c payload o)) in ([], sym none ∙ append_no_record (records_in d es))
+  own_first (Draw c) payload o es more h rest = draw_first c es more h
+  own_first Noop payload o es more h rest = nothing_first d es more [] h
+  own_first (SetToken token) payload o es more h rest = nothing_first d es more [] h
+  own_first (Bucket c) payload o es more h rest = nothing_first d es more [] h
+  own_first (Query c) payload o es more h rest = nothing_first d es more [] h
+
+  first_by : (r : Option GlError) (c : Command) (payload : List ℕ) (o : Oracle) (es : List DriverEntry) (more : List DriverCall) → calls_in es ++ more ≡ calls_by r w c payload o → (rest : Oracle) → AreFirst (records_in d es) (records_by r w.es c payload rest (read_contents d.contents))
+  first_by (Some e) c payload o es more h rest = nothing_first d es more [] h
+  first_by None Noop payload o es more h rest = own_first Noop payload o es more h rest
+  first_by None (SetToken token) payload o es more h rest = own_first (SetToken token) payload o es more h rest
+  first_by None (Bucket c) payload o es more h rest = own_first (Bucket c) payload o es more h rest
+  first_by None (Object c) payload o es more h rest = own_first (Object c) payload o es more h rest
+  first_by None (Draw c) payload o es more h rest = own_first (Draw c) payload o es more h rest
+  first_by None (Query c) payload o es more h rest = own_first (Query c) payload o es more h rest
+
+  -- what the first calls of a command record is the first of what it records, whatever is answered behind them
+  pub front_records : (c : Command) (payload : List ℕ) (o : Oracle) (es : List DriverEntry) (more : List DriverCall) → calls_in es ++ more ≡ command_calls w c payload o → (rest : Oracle) → AreFirst (records_in d es) (step_records w.es c payload rest (read_contents d.contents))
+  front_records c payload o es more h rest = first_by (command_refusal w.es c payload) c payload o es more h rest

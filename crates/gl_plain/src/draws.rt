@@ -1,0 +1,60 @@
+//! What the rules of draws look at (OpenGL ES 2.0.25, sections 2.8, 3.7 and 4.4).
+
+use crate::ArraySpec;
+use gl_base::GlEnum;
+
+/// The indices of a draw.
+#[derive(Clone, Copy, Debug, PartialEq, Eq)]
+pub struct IndexView {
+    pub kind: GlEnum,
+    /// The greatest index, or None where no buffer is bound or the indices are not inside it.
+    pub last: Option<u32>,
+}
+
+/// The array of a vertex attribute.
+#[derive(Clone, Copy, Debug, PartialEq, Eq)]
+pub struct ArrayView {
+    pub on: bool,
+    pub spec: ArraySpec,
+    /// The bytes of its buffer; 0 where it is not enabled or lies in no buffer.
+    pub bytes: u32,
+}
+
+/// A texture unit.
+#[derive(Clone, Copy, Default, Debug, PartialEq, Eq)]
+pub struct UnitView {
+    /// Whether a sampler of flat textures names it.
+    pub flat: bool,
+    /// Whether a sampler of cube maps names it.
+    pub cube: bool,
+    /// Whether the texture that is sampled is complete.
+    pub complete: bool,
+    /// Whether that texture is attached to the framebuffer that is drawn to.
+    pub attached: bool,
+}
+
+/// All that the rules of draws look at, but for the first element and the count.
+#[derive(Clone, Copy, Debug, PartialEq, Eq)]
+pub struct DrawView {
+    pub mode: GlEnum,
+    /// The indices, where the draw has any.
+    pub indexed: Option<IndexView>,
+    /// By location.
+    pub arrays: [ArrayView; 16],
+    /// A bit for each location that the program uses.
+    pub used: u16,
+    pub units: [UnitView; 8],
+    /// The status of the framebuffer that is drawn to.
+    pub status: u32,
+    /// Whether an executable is in use.
+    pub program: bool,
+}
+
+/// What a draw that is not refused does.
+#[derive(Clone, Copy, Debug, PartialEq, Eq)]
+pub struct DrawPlan {
+    /// Whether anything is drawn.
+    pub draw: bool,
+    /// A bit for each unit whose sampled texture is not complete, and reads as black.
+    pub black: u8,
+}

@@ -1,0 +1,8 @@
+-- That a draw of arrays is written with its numbers as they are.
+use Rattle.std.proofs.lemmas.Int.{to_z-of_z}
+use Rattle.report_text.specs.Calls.{drawing_text}
+use Rattle.report_text.proofs.calls.write_draw_arrays.Goals as goal
+
+pub returns : goal.returns
+unfolding drawing_text
+returns c = let first = c.ranges.first in let count = c.ranges.count in simp to_z-of_z at (rw c.from.ensures at c.write_named.ensures)
