@@ -25,7 +25,9 @@ DATA_LIMIT = 67108864
 NOOP, SET_BUCKET_SIZE, SET_BUCKET_DATA = 0, 2, 3
 GEN_BUFFERS, BIND_BUFFER, BUFFER_DATA, BUFFER_SUB_DATA, DELETE_BUFFERS, GET_ERROR = 257, 258, 259, 260, 261, 327
 CREATE_SHADER, COMPILE_SHADER, CREATE_PROGRAM, ATTACH_SHADER, LINK_PROGRAM, USE_PROGRAM, UNIFORM = 280, 282, 284, 285, 288, 290, 292
-ARRAY_BUFFER, STATIC_DRAW, VERTEX_SHADER, FRAGMENT_SHADER = 0x8892, 0x88E4, 0x8B31, 0x8B30
+VERTEX_ATTRIB_POINTER, ENABLE_VERTEX_ATTRIB_ARRAY, ENABLE, DISABLE, DRAW_ARRAYS, DRAW_ELEMENTS = 294, 295, 297, 298, 322, 323
+ARRAY_BUFFER, ELEMENT_ARRAY_BUFFER, STATIC_DRAW, VERTEX_SHADER, FRAGMENT_SHADER = 0x8892, 0x8893, 0x88E4, 0x8B31, 0x8B30
+UNSIGNED_BYTE, UNSIGNED_SHORT, FLOAT, BLEND, TRIANGLES = 0x1401, 0x1403, 0x1406, 0x0BE2, 4
 
 
 def command(number, *words):
@@ -93,6 +95,52 @@ def uniforms(n):
     text = f"ring {entries}\n{link_lines(256)}region 1 16\nbytes 1 0 {'3f' * 16}\nbytes 0 0 {ring.hex()}\n"
     text += f"at 18 0 0 {struct.pack('<I', size).hex()}\n"
     return (text + f"put {entries // 2 // 9 * 9 + size % 9}\nput 0\n" * (n // 100000)).encode(), n, n + 13
+
+
+def laps(setup, copies, lines, commands, count, rounds):
+    """Some commands, of which there are so many, in rounds. Behind the first round a Noop covers the setup, which takes so many copies."""
+    size, entries = len(setup) // 4, (len(setup) + len(commands)) // 4
+    middle = size + (entries - size) // count * (count // 2)
+    text = f"ring {entries}\n{lines}bytes 0 0 {(setup + commands).hex()}\nat {copies} 0 0 {struct.pack('<I', size).hex()}\n"
+    return (text + f"put {middle}\nput 0\n" * rounds).encode()
+
+
+def stored(id, target, size):
+    return command(GEN_BUFFERS, id) + command(BIND_BUFFER, target, id) + command(BUFFER_DATA, target, size, STATIC_DRAW, 0, 0, 0, 0)
+
+
+def four_arrays():
+    """A program with four attributes, whose arrays lie in one buffer. It takes 40 copies, and 23 lines are printed."""
+    ring = program() + stored(1, ARRAY_BUFFER, 4096)
+    for k in range(4):
+        ring += command(VERTEX_ATTRIB_POINTER, k, 4, FLOAT, 0, 64, 16 * k) + command(ENABLE_VERTEX_ATTRIB_ARRAY, k)
+    return ring
+
+
+FOUR_ATTRIBUTES = "link ok -\n" + "".join(f"attr a{k} FLOAT_VEC4 {k}\n" for k in range(4)) + "region 1 8\n"
+
+
+def draw_arrays(n):
+    """Rounds of 100,000 draws of three vertices."""
+    return laps(four_arrays(), 40, FOUR_ATTRIBUTES, command(DRAW_ARRAYS, TRIANGLES, 0, 3) * 100000, 100000, n // 100000), n, n + 24
+
+
+def draw_elements(kind, indices, count, n):
+    setup = four_arrays() + stored(2, ELEMENT_ARRAY_BUFFER, 2 * indices)
+    return laps(setup, 46, FOUR_ATTRIBUTES, command(DRAW_ELEMENTS, TRIANGLES, indices, kind, 0) * count, count, n // count), n, n + 27
+
+
+def small_elements(n):
+    return draw_elements(UNSIGNED_SHORT, 300, 10000, n)
+
+
+def large_elements(n):
+    return draw_elements(UNSIGNED_BYTE, 1000000, 100, n)
+
+
+def raster(n):
+    """Rounds of 100,000 commands on the fixed state."""
+    return laps(command(NOOP), 1, "", (command(ENABLE, BLEND) + command(DISABLE, BLEND)) * 50000, 100000, n // 100000), n, n + 1
 
 
 def links(n):
@@ -195,6 +243,10 @@ ROWS = [
     ("GetError", get_errors, 170000),
     ("Uniform of 16 bytes, 256 uniforms", uniforms, 500000),
     ("LinkProgram, 8 uniforms", links, 50000),
+    ("DrawArrays of 3, four arrays", draw_arrays, 500000),
+    ("DrawElements of 300 indices", small_elements, 50000),
+    ("DrawElements of 1,000,000 indices", large_elements, 100),
+    ("Enable and Disable", raster, 500000),
     ("64 MiB through a bucket", through_bucket, DATA_LIMIT),
     ("Noops, a put for each 1,024", large_rounds, 500000),
     ("Noops, a put for each", small_rounds, 500000),
