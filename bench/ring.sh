@@ -24,10 +24,12 @@ ENTRIES = 1048576
 DATA_LIMIT = 67108864
 NOOP, SET_BUCKET_SIZE, SET_BUCKET_DATA = 0, 2, 3
 GEN_BUFFERS, BIND_BUFFER, BUFFER_DATA, BUFFER_SUB_DATA, DELETE_BUFFERS, GET_ERROR = 257, 258, 259, 260, 261, 327
+ACTIVE_TEXTURE, GEN_TEXTURES, BIND_TEXTURE, TEX_IMAGE_2D, TEX_SUB_IMAGE_2D = 256, 262, 263, 265, 266
 CREATE_SHADER, COMPILE_SHADER, CREATE_PROGRAM, ATTACH_SHADER, LINK_PROGRAM, USE_PROGRAM, UNIFORM = 280, 282, 284, 285, 288, 290, 292
 VERTEX_ATTRIB_POINTER, ENABLE_VERTEX_ATTRIB_ARRAY, ENABLE, DISABLE, DRAW_ARRAYS, DRAW_ELEMENTS = 294, 295, 297, 298, 322, 323
 ARRAY_BUFFER, ELEMENT_ARRAY_BUFFER, STATIC_DRAW, VERTEX_SHADER, FRAGMENT_SHADER = 0x8892, 0x8893, 0x88E4, 0x8B31, 0x8B30
 UNSIGNED_BYTE, UNSIGNED_SHORT, FLOAT, BLEND, TRIANGLES = 0x1401, 0x1403, 0x1406, 0x0BE2, 4
+TEXTURE_2D, TEXTURE0, RGBA = 0x0DE1, 0x84C0, 0x1908
 
 
 def command(number, *words):
@@ -138,6 +140,39 @@ def large_elements(n):
     return draw_elements(UNSIGNED_BYTE, 1000000, 100, n)
 
 
+def texture(id, sides):
+    """A texture with levels of these sides, of which nothing is written."""
+    ring = command(GEN_TEXTURES, id) + command(BIND_TEXTURE, TEXTURE_2D, id)
+    return ring + b"".join(
+        command(TEX_IMAGE_2D, TEXTURE_2D, level, RGBA, side, side, 0, RGBA, UNSIGNED_BYTE, 0, 0, 0, 0) for level, side in enumerate(sides)
+    )
+
+
+def parts_of_image(n):
+    """Rounds of 50,000 parts of 16 by 16 pixels, row by row of an image of 2,048 by 2,048. The first of the second row has the rest zeroed."""
+    places = [(16 * (k % 128), 16 * (k // 128 % 128)) for k in range(50000)]
+    ring = b"".join(command(TEX_SUB_IMAGE_2D, TEXTURE_2D, 0, x, y, 16, 16, RGBA, UNSIGNED_BYTE, 1, 1024, 1, 0) for x, y in places)
+    return laps(texture(1, [2048]), 6, f"region 1 1024\nbytes 1 0 {'7f' * 64}\n", ring, 50000, n // 50000), n, n + 5
+
+
+def images(n):
+    """1,024 by 1,024 pixels of four bytes, n times."""
+    size = 4 << 20
+    ring = texture(1, []) + command(TEX_IMAGE_2D, TEXTURE_2D, 0, RGBA, 1024, 1024, 0, RGBA, UNSIGNED_BYTE, 1, size, 1, 0) * n
+    return script(ring, f"region 1 {size}\nbytes 1 0 {'7f' * 64}\n"), n + 2, n + 3
+
+
+def eight_textures(n):
+    """Rounds of 100,000 draws that sample eight textures of five levels, which are zeroed at the first. The setup takes 170 copies."""
+    setup = program()
+    for unit in range(8):
+        setup += command(ACTIVE_TEXTURE, TEXTURE0 + unit) + texture(unit + 1, [16, 8, 4, 2, 1])
+        setup += command(UNIFORM, unit, 5, 1, 0, 1, 4, 1, 8 + 4 * unit)
+    lines = "link ok -\n" + "".join(f"uniform s{k} SAMPLER_2D 1\n" for k in range(8))
+    lines += f"region 1 40\nbytes 1 8 {b''.join(struct.pack('<I', k) for k in range(8)).hex()}\n"
+    return laps(setup, 170, lines, command(DRAW_ARRAYS, TRIANGLES, 0, 3) * 100000, 100000, n // 100000), n, n + 125
+
+
 def raster(n):
     """Rounds of 100,000 commands on the fixed state."""
     return laps(command(NOOP), 1, "", (command(ENABLE, BLEND) + command(DISABLE, BLEND)) * 50000, 100000, n // 100000), n, n + 1
@@ -246,6 +281,9 @@ ROWS = [
     ("DrawArrays of 3, four arrays", draw_arrays, 500000),
     ("DrawElements of 300 indices", small_elements, 50000),
     ("DrawElements of 1,000,000 indices", large_elements, 100),
+    ("TexSubImage2D of 16 by 16", parts_of_image, 50000),
+    ("TexImage2D of 4 MiB of a region", images, 500),
+    ("DrawArrays of 3, eight textures", eight_textures, 500000),
     ("Enable and Disable", raster, 500000),
     ("64 MiB through a bucket", through_bucket, DATA_LIMIT),
     ("Noops, a put for each 1,024", large_rounds, 500000),

@@ -24,10 +24,9 @@ fn tables_end_where_they_do(rt: HostRuntime) {
     assert_eq!(rt; layout(345), None);
     assert_eq!(rt; layout(u32::MAX), None);
     assert!(rt; known(2) && known(5) && !known(6) && !known(255));
-    assert!(rt;
-        known(261) && !known(262) && !known(279) && known(280) && known(323) && !known(324)
-    );
-    assert!(rt; known(325) && known(327) && !known(256) && !known(328));
+    assert!(rt; known(256) && known(266) && !known(267) && known(269) && !known(270));
+    assert!(rt; !known(279) && known(280) && known(323) && !known(324));
+    assert!(rt; known(325) && known(327) && !known(328));
 }
 
 #[test]
@@ -73,6 +72,13 @@ fn data_is_read_from_shared_memory_alone(rt: HostRuntime) {
     assert_eq!(rt;
         plan(259, &[0x8892, 16, 0x88E4, 2, 16, 3, 0]),
         Plan::Nothing
+    );
+    assert_eq!(rt;
+        plan(
+            265,
+            &[0x0DE1, 0, 0x1908, 2, 2, 0, 0x1908, 0x1401, 1, 16, 9, 64]
+        ),
+        shared
     );
     assert_eq!(rt;
         plan(259, &[0x8892, 16, 0x88E4, 3, 16, 9, 64]),

@@ -1,3 +1,4 @@
 -- The lemmas that proofs share.
 pub mod Drawings
 pub mod Family
+pub mod MadeWhole

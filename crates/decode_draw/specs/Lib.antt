@@ -1,3 +1,4 @@
 -- The definitions that contracts cite.
 pub mod States
 pub mod Judged
+pub mod Whole

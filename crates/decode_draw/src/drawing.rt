@@ -1,10 +1,10 @@
 //! The commands on the fixed state, and those that clear and draw (OpenGL ES 2.0.25, sections 2.8 and 4.2.3). Each relies on having been judged.
-ghost use Rattle.std.specs.Prelude.{◌≡◌};
+ghost use Rattle.std.specs.Prelude.{◌≡◌, None};
 ghost use Rattle.gl_plain.specs.declared.commands.DrawCommand.TheVariants as command;
-ghost use Rattle.gl_plain.specs.subjects.Raster.{is_driver_raster};
+ghost use Rattle.gl_plain.specs.subjects.Raster.{is_driver_raster, raster_refusal};
 ghost use Rattle.gl_driver.specs.Performed.{Acts};
 ghost use Rattle.decode_draw.specs.States.{raster_in};
-ghost use Rattle.decode_draw.specs.Judged.{planned, planned_calls, MayMake};
+ghost use Rattle.decode_draw.specs.Judged.{planned, planned_calls, MayCall};
 
 use gl_base::GlEnum;
 use gl_driver::Driver;
@@ -27,7 +27,8 @@ pub fn set_raster<D: Driver>(
     plan: DrawPlan,
     driver: &mut D,
 ) -> Result<Reply, ExecStop>
-    requires may { MayMake (D.history driver.old).state (planned_calls plan (command.Raster number words)) }
+    requires taken { raster_refusal number words ≡ None }
+    requires may { MayCall (D.history driver.old).state (planned_calls plan (command.Raster number words)) }
     ensures { Acts D.history D.grown (planned plan (command.Raster number words)) (raster_in raster.old) (raster_in raster.new) driver.old driver.new result }
 {
     let kept = kept_words(number, &words);
@@ -42,7 +43,7 @@ pub fn set_raster<D: Driver>(
 
 /// Clear: the images that the mask names are cleared. With no bit set nothing is done.
 pub fn clear<D: Driver>(mask: u32, plan: DrawPlan, driver: &mut D) -> Result<Reply, ExecStop>
-    requires may { MayMake (D.history driver.old).state (planned_calls plan (command.Clear mask)) }
+    requires may { MayCall (D.history driver.old).state (planned_calls plan (command.Clear mask)) }
     ensures { Acts D.history D.grown (planned plan (command.Clear mask)) (λ w. w) (λ w. w) driver.old driver.new result }
 {
     if mask == 0 {
@@ -60,7 +61,7 @@ pub fn draw_arrays<D: Driver>(
     plan: DrawPlan,
     driver: &mut D,
 ) -> Result<Reply, ExecStop>
-    requires may { MayMake (D.history driver.old).state (planned_calls plan (command.DrawArrays mode first count)) }
+    requires may { MayCall (D.history driver.old).state (planned_calls plan (command.DrawArrays mode first count)) }
     ensures { Acts D.history D.grown (planned plan (command.DrawArrays mode first count)) (λ w. w) (λ w. w) driver.old driver.new result }
 {
     if !plan.draw {
@@ -79,7 +80,7 @@ pub fn draw_elements<D: Driver>(
     plan: DrawPlan,
     driver: &mut D,
 ) -> Result<Reply, ExecStop>
-    requires may { MayMake (D.history driver.old).state (planned_calls plan (command.DrawElements mode count kind offset)) }
+    requires may { MayCall (D.history driver.old).state (planned_calls plan (command.DrawElements mode count kind offset)) }
     ensures { Acts D.history D.grown (planned plan (command.DrawElements mode count kind offset)) (λ w. w) (λ w. w) driver.old driver.new result }
 {
     if !plan.draw {

@@ -3,7 +3,10 @@
 
 mod command;
 mod drawing;
+mod judged;
 mod judging;
+mod sampled;
+mod units;
 mod views;
 
 pub use command::{draw_command, execute_draw};

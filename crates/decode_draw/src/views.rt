@@ -3,15 +3,20 @@ ghost use Rattle.std.specs.Prelude.{◌≡◌, length, map, None, Some};
 ghost use Rattle.gl_plain.specs.Words.{natural};
 ghost use Rattle.gl_plain.specs.subjects.Draws as draws;
 ghost use Rattle.buffer_mgr.specs.Tables.{tables};
+ghost use Rattle.program_mgr.specs.Tables as programs_as;
+ghost use Rattle.texture_mgr.specs.Tables as textures_as;
 ghost use Rattle.decode_draw.specs.States.{sources};
+ghost use Rattle.decode_draw.specs.Judged.{with_units};
 
+use crate::judged::Judged;
 use attrib_mgr::Attribs;
 use buffer_mgr::Buffers;
 use draw_check::{check, is_index_kind};
 use gl_base::GlEnum;
 use gl_base::enums::{ELEMENT_ARRAY_BUFFER, FLOAT, FRAMEBUFFER_COMPLETE};
-use gl_plain::{ArraySpec, ArrayView, DrawPlan, DrawView, GlError, IndexView, VertexAttribute};
+use gl_plain::{ArraySpec, ArrayView, DrawView, GlError, IndexView, UnitView, VertexAttribute};
 use program_mgr::Programs;
+use texture_mgr::Textures;
 
 /// How many bytes an object has: none where there is none.
 fn object_size(buffers: &Buffers, object: Option<u64>) -> u32
@@ -81,55 +86,80 @@ fn index_view(buffers: &Buffers, count: i32, kind: GlEnum, offset: u32) -> Index
     IndexView { kind, last }
 }
 
+/// The texture units: how samplers name them, and whether what they sample is complete (sections 2.10.4 and 3.7.10).
+fn units_viewed(textures: &Textures, programs: &Programs) -> [UnitView; 8]
+    ensures { result ≡ draws.with_textures (textures_as.tables textures.now).objects 0 (draws.all_units (programs_as.tables programs.now).installed) }
+{
+    let mut units = programs.unit_views();
+    for unit in 0..units.len() {
+        units[unit] = textures.view(unit as u32, units[unit]);
+    }
+    units
+}
+
 /// All that the rules look at. Framebuffer 0, which alone is there yet, is complete (section 4.4.5).
 fn draw_view(
     buffers: &Buffers,
+    textures: &Textures,
     programs: &Programs,
     attribs: &Attribs,
     mode: GlEnum,
     indexed: Option<IndexView>,
 ) -> DrawView
-    ensures { result ≡ record (draws.draw_view (sources buffers.now programs.now attribs.now) mode None 0) { indexed = indexed } }
+    ensures { result ≡ record (draws.draw_view (sources buffers.now textures.now programs.now attribs.now) mode None 0) { indexed = indexed } }
 {
     DrawView {
         mode,
         indexed,
         arrays: array_views(buffers, attribs),
         used: programs.used_attributes(),
-        units: programs.unit_views(),
+        units: units_viewed(textures, programs),
         status: FRAMEBUFFER_COMPLETE,
         program: programs.has_executable(),
     }
 }
 
+/// Judges a draw by what the rules look at.
+fn judge_view(view: &DrawView, first: i32, count: i32) -> Result<Judged, GlError>
+    ensures { result ≡ with_units view.now.units (draws.check_of view.now first count) }
+{
+    let plan = check(view, first, count)?;
+    Ok(Judged {
+        plan,
+        units: view.units,
+    })
+}
+
 /// Judges DrawArrays.
 pub fn check_arrays(
     buffers: &Buffers,
+    textures: &Textures,
     programs: &Programs,
     attribs: &Attribs,
     mode: GlEnum,
     first: i32,
     count: i32,
-) -> Result<DrawPlan, GlError>
-    ensures { result ≡ draws.check_arrays (sources buffers.now programs.now attribs.now) mode first count }
+) -> Result<Judged, GlError>
+    ensures { result ≡ with_units (draws.units_viewed (sources buffers.now textures.now programs.now attribs.now)) (draws.check_arrays (sources buffers.now textures.now programs.now attribs.now) mode first count) }
 {
-    let view = draw_view(buffers, programs, attribs, mode, None);
-    check(&view, first, count)
+    let view = draw_view(buffers, textures, programs, attribs, mode, None);
+    judge_view(&view, first, count)
 }
 
 /// Judges DrawElements.
 pub fn check_indexed(
     buffers: &Buffers,
+    textures: &Textures,
     programs: &Programs,
     attribs: &Attribs,
     mode: GlEnum,
     count: i32,
     kind: GlEnum,
     offset: u32,
-) -> Result<DrawPlan, GlError>
-    ensures { result ≡ draws.check_indexed (sources buffers.now programs.now attribs.now) mode count kind offset }
+) -> Result<Judged, GlError>
+    ensures { result ≡ with_units (draws.units_viewed (sources buffers.now textures.now programs.now attribs.now)) (draws.check_indexed (sources buffers.now textures.now programs.now attribs.now) mode count kind offset) }
 {
     let indices = index_view(buffers, count, kind, offset);
-    let view = draw_view(buffers, programs, attribs, mode, Some(indices));
-    check(&view, 0, count)
+    let view = draw_view(buffers, textures, programs, attribs, mode, Some(indices));
+    judge_view(&view, 0, count)
 }

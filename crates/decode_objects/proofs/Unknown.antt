@@ -11,7 +11,7 @@ use Rattle.gl_plain.specs.declared.stop.ExecStop.{ExecStop}
 use Rattle.gl_plain.specs.subjects.Names.{new_name}
 use Rattle.gl_plain.specs.Oracle.{Oracle, first, behind, default_answers}
 use Rattle.gl_plain.specs.State.{EsState, WireState, DriverState}
-use Rattle.gl_plain.specs.Spaces.{Space, names_in, with_name, numbers_in, with_numbers, gen_call}
+use Rattle.gl_plain.specs.Spaces.{Space, Buffers, Textures, names_in, with_name, numbers_in, with_numbers, gen_call}
 use Rattle.gl_plain.specs.Outcome.{leaves}
 use Rattle.gl_plain.specs.driver.Allowed.{IsAllowed}
 use Rattle.gl_plain.specs.driver.Answers.{told, told_call}
@@ -21,6 +21,8 @@ use Rattle.gl_plain.specs.Meaning.{Meaning}
 use Rattle.gl_plain.specs.Parts.{calls_in}
 use Rattle.gl_plain.specs.object.Step.{bind_outcome}
 use Rattle.gl_plain.specs.object.Calls.{bind_calls}
+use Rattle.gl_plain.specs.object.Covers.{bound_covers}
+use Rattle.gl_plain.specs.subjects.Images.{Covers}
 use Rattle.gl_laws.proofs.Lists.{entry}
 use Rattle.gl_laws.proofs.Binds.{known_name, first_number, numbers_behind, gen_told}
 use Rattle.gl_driver.specs.History.{History, Served}
@@ -31,11 +33,16 @@ use Rattle.decode_objects.specs.Ready.{MayMake}
 abbrev pub gen_entry : Space → ℕ → DriverEntry
 gen_entry space n = entry (gen_call space) (Name n)
 
+-- what is written of images behind a bind
+abbrev pub bind_covers : Space → Covers → ℕ → Oracle → Option names.Name → Covers
+bind_covers Buffers f id o found = f
+bind_covers Textures f id o found = bound_covers f id o found
+
 -- what is left of a bind, once it was found to be neither malformed nor refused
 abbrev pub bind_part : Space → (ℕ → DriverCall) → (EsState → EsState) → ℕ → WireState → Meaning WireState
 bind_part space call bind id w = record {
   bad = false;
-  step = λ o. on_wire w (bind_outcome space bind w.es id o (map.get (names_in space w.es) id));
+  step = λ o. on_wire (record w { covers = bind_covers space w.covers id o (map.get (names_in space w.es) id) }) (bind_outcome space bind w.es id o (map.get (names_in space w.es) id));
   calls = λ o. bind_calls space call id o (map.get (names_in space w.es) id);
 }
 
@@ -75,6 +82,13 @@ module _ (space : Space) (call : ℕ → DriverCall) (id : ℕ) where
           → bind_outcome space bind s id t found ≡ leaves (bind (with_name space id (first (numbers_in space t)) s)) (with_numbers space (behind (numbers_in space t)) t)
       step_unknown s t found e positive = rw (e, apart id positive) refl
 
+      -- what is written is the same
+      covers_unknown : (found : Option names.Name) → found ≡ None → id ≢ 0 → (f : Covers) (o : Oracle) → bind_covers space f id (told_call (gen_call space) (Name n) o) found ≡ bind_covers space f id o (Some (new_name n))
+      covers_unknown found e positive f o = elim space as (λ x. bind_covers x f id (told_call (gen_call x) (Name n) o) found ≡ bind_covers x f id o (Some (new_name n))) [
+        | Buffers ↦ refl
+        | Textures ↦ rw (e, apart id positive) refl
+      ]
+
       gen_leads : (w : WireState) → map.get (names_in space w.es) id ≡ None → id ≢ 0 → Leads (bind_part space call bind id w) (bind_part space call bind id (named_in space id n w)) (gen_entry space n ∷ [])
       gen_leads w unknown positive =
           let s : EsState = with_name space id n w.es in
@@ -82,9 +96,9 @@ module _ (space : Space) (call : ℕ → DriverCall) (id : ℕ) where
           record {
             fair = refl;
             fair_after = refl;
-            step = λ o. ap (on_wire w)
+            step = λ o i. on_wire (record w { covers = (covers_unknown (map.get (names_in space w.es) id) unknown positive w.covers o ∙ ap (bind_covers space w.covers id o) (sym known)) i }) (
                 (step_unknown w.es (told_call (gen_call space) (Name n) o) (map.get (names_in space w.es) id) unknown positive ∙ (λ i. leaves (bind (with_name space id (number_is o i) w.es)) (rest_is o i))
-                ∙ sym (step_known s o (map.get (names_in space s) id) (new_name n) known));
+                ∙ sym (step_known s o (map.get (names_in space s) id) (new_name n) known)) i);
             calls = λ o. sym (calls_named (map.get (names_in space w.es) id) unknown positive o) ∙ ap (λ found. gen_call space ∷ bind_calls space call id o found) (sym known);
           }
 

@@ -7,6 +7,8 @@ use Rattle.gl_plain.specs.State.{WireState}
 use Rattle.gl_plain.specs.Meaning.{Meaning, own_meaning}
 use Rattle.buffer_mgr.specs.declared.buffers.Buffers.{Buffers}
 use Rattle.buffer_mgr.specs.Tables.{tables}
+use Rattle.texture_mgr.specs.declared.textures.Textures.{Textures}
+use Rattle.texture_mgr.specs.Tables as textures_as
 use Rattle.attrib_mgr.specs.declared.attribs.Attribs.{Attribs}
 use Rattle.program_mgr.specs.declared.programs.Programs.{Programs}
 use Rattle.program_mgr.specs.Tables as programs_as
@@ -23,13 +25,17 @@ attribs_in a w = record w { es = record w.es { attribs = a.attributes } }
 abbrev pub programs_in : Programs → WireState → WireState
 programs_in p w = record w { es = record w.es { programs = programs_as.tables p } }
 
+-- the state with these textures, and what is written of them
+abbrev pub textures_in : Textures → WireState → WireState
+textures_in t w = record w { es = record w.es { textures = textures_as.tables t }; covers = textures_as.covers t }
+
 -- the state with these codes recorded
 abbrev pub errors_in : Errors → WireState → WireState
 errors_in e w = record w { es = record w.es { errors = e } }
 
--- the state with all four
-abbrev pub objects_in : Buffers → Programs → Attribs → Errors → WireState → WireState
-objects_in b p a e w = record w { es = record w.es { buffers = tables b; attribs = a.attributes; programs = programs_as.tables p; errors = e } }
+-- the state with all five
+abbrev pub objects_in : Buffers → Textures → Programs → Attribs → Errors → WireState → WireState
+objects_in b t p a e w = record w { es = record w.es { buffers = tables b; textures = textures_as.tables t; attribs = a.attributes; programs = programs_as.tables p; errors = e }; covers = textures_as.covers t }
 
 -- what is left of a command, once it was found to be neither malformed nor refused
 abbrev pub own_part : ObjectCommand → List ℕ → WireState → Meaning WireState

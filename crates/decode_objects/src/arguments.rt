@@ -1,10 +1,12 @@
 //! The argument rules of the commands on objects, other than those on data in a bucket.
 ghost use Rattle.std.specs.Prelude.{◌≡◌};
 ghost use Rattle.buffer_mgr.specs.Tables.{tables};
+ghost use Rattle.texture_mgr.specs.Tables as textures_as;
 ghost use Rattle.program_mgr.specs.Tables as programs_as;
 ghost use Rattle.gl_plain.specs.State.{EsState};
 ghost use Rattle.gl_plain.specs.subjects.Buffers as plain;
 ghost use Rattle.gl_plain.specs.subjects.Data as words_of;
+ghost use Rattle.gl_plain.specs.subjects.Textures as textures_of;
 ghost use Rattle.gl_plain.specs.subjects.Programs as programs_of;
 ghost use Rattle.gl_plain.specs.subjects.Uniforms as uniforms;
 ghost use Rattle.gl_plain.specs.object.Arguments.{object_is_bad};
@@ -14,6 +16,7 @@ use gl_base::limits::DATA_LIMIT;
 use gl_base::{is_ordinary, is_reserved};
 use gl_plain::{DataWords, ObjectCommand};
 use program_mgr::{Programs, is_given_kind, uniform_needed};
+use texture_mgr::Textures;
 
 /// Whether GenBuffers may not give this id: it is none that may be given, or it is in use.
 fn gen_buffers_is_bad(buffers: &Buffers, id: u32) -> bool
@@ -27,24 +30,6 @@ fn bind_buffer_is_bad(id: u32) -> bool
     ensures { result ≡ plain.bind_buffer_is_bad id }
 {
     !(id == 0 || is_ordinary(id) || is_reserved(id))
-}
-
-fn has_no_data(words: DataWords) -> bool
-    ensures { result ≡ words_of.has_no_data words }
-{
-    words.source == 0 && words.count == 0 && words.a == 0 && words.b == 0
-}
-
-fn has_needed_data(words: DataWords, needed: u32) -> bool
-    ensures { result ≡ words_of.has_needed_data words needed }
-{
-    (words.source == 1 || words.source == 2) && words.count == needed
-}
-
-fn has_just_needed_data(words: DataWords, needed: u32) -> bool
-    ensures { result ≡ words_of.has_just_needed_data words needed }
-{
-    (has_no_data(words) && needed == 0) || has_needed_data(words, needed)
 }
 
 /// How many bytes BufferData and BufferSubData need: none for a size that is refused.
@@ -62,14 +47,28 @@ fn data_needed(size: i32) -> u32
 fn buffer_data_is_bad(size: i32, words: DataWords) -> bool
     ensures { result ≡ plain.buffer_data_is_bad size words }
 {
-    !(has_no_data(words) || has_needed_data(words, data_needed(size)))
+    !(words.has_no_data() || words.has_needed_data(data_needed(size)))
 }
 
 /// Whether the words of BufferSubData are neither those of as many bytes as it needs nor, where it needs none, those of no data.
 fn buffer_sub_data_is_bad(size: i32, words: DataWords) -> bool
     ensures { result ≡ plain.buffer_sub_data_is_bad size words }
 {
-    !has_just_needed_data(words, data_needed(size))
+    !words.has_just_needed_data(data_needed(size))
+}
+
+/// Whether GenTextures may not give this id: it is none that may be given, or it is in use.
+fn gen_textures_is_bad(textures: &Textures, id: u32) -> bool
+    ensures { result ≡ textures_of.gen_textures_is_bad (textures_as.tables textures.now).names id }
+{
+    !is_ordinary(id) || textures.name(id).is_some()
+}
+
+/// Whether BindTexture may not name this id.
+fn bind_texture_is_bad(id: u32) -> bool
+    ensures { result ≡ textures_of.bind_texture_is_bad id }
+{
+    !(id == 0 || is_ordinary(id))
 }
 
 /// Whether CreateShader and CreateProgram may not give this id: it is none that may be given, or it is in use.
@@ -83,24 +82,31 @@ fn create_is_bad(programs: &Programs, id: u32) -> bool
 fn uniform_is_bad(kind: u32, count: i32, words: DataWords) -> bool
     ensures { result ≡ uniforms.uniform_is_bad kind count words }
 {
-    !(is_given_kind(kind) && has_just_needed_data(words, uniform_needed(kind, count)))
+    !(is_given_kind(kind) && words.has_just_needed_data(uniform_needed(kind, count)))
 }
 
 /// Whether an argument rule of the command is broken.
-pub fn is_malformed(buffers: &Buffers, programs: &Programs, command: ObjectCommand) -> bool
-    ensures { (s : EsState) → result ≡ object_is_bad (record s { buffers = tables buffers.now; programs = programs_as.tables programs.now }) command }
+pub fn is_malformed(
+    buffers: &Buffers,
+    textures: &Textures,
+    programs: &Programs,
+    command: ObjectCommand,
+) -> bool
+    ensures { (s : EsState) → result ≡ object_is_bad (record s { buffers = tables buffers.now; textures = textures_as.tables textures.now; programs = programs_as.tables programs.now }) command }
 {
     match command {
         ObjectCommand::GenBuffers { id } => gen_buffers_is_bad(buffers, id),
         ObjectCommand::BindBuffer { target: _, id } => bind_buffer_is_bad(id),
         ObjectCommand::BufferData { size, words, .. } => buffer_data_is_bad(size, words),
         ObjectCommand::BufferSubData { size, words, .. } => buffer_sub_data_is_bad(size, words),
+        ObjectCommand::GenTextures { id } => gen_textures_is_bad(textures, id),
+        ObjectCommand::BindTexture { target: _, id } => bind_texture_is_bad(id),
         ObjectCommand::CreateShader { id, kind: _ } | ObjectCommand::CreateProgram { id } => {
             create_is_bad(programs, id)
         }
         ObjectCommand::ShaderSource { words, .. }
         | ObjectCommand::BindAttribLocation { words, .. } => {
-            !has_just_needed_data(words, words.count)
+            !words.has_just_needed_data(words.count)
         }
         ObjectCommand::Uniform {
             kind,
@@ -109,6 +115,7 @@ pub fn is_malformed(buffers: &Buffers, programs: &Programs, command: ObjectComma
             ..
         } => uniform_is_bad(kind, count, words),
         ObjectCommand::DeleteBuffers { .. }
+        | ObjectCommand::DeleteTextures { .. }
         | ObjectCommand::VertexAttrib4f { .. }
         | ObjectCommand::VertexAttribPointer { .. }
         | ObjectCommand::EnableVertexAttribArray { .. }

@@ -25,6 +25,7 @@ use crate::programs::{
     compile_shader, create_program, create_shader, delete_program, delete_shader, shader_source,
 };
 use crate::refusals::refusal;
+use crate::textures::{bind_texture, delete_textures, gen_textures};
 use crate::uniforms::uniform;
 use attrib_mgr::Attribs;
 use buffer_mgr::Buffers;
@@ -32,11 +33,13 @@ use gl_driver::Driver;
 use gl_plain::{Command, Errors, ExecStop, Fetched, Malformed, ObjectCommand, Reply};
 use program_mgr::Programs;
 use std::alloc::Global;
+use texture_mgr::Textures;
 
 /// A command that is neither malformed nor refused.
 fn execute<D: Driver>(
     alloc: Global,
     buffers: &mut Buffers,
+    textures: &mut Textures,
     programs: &mut Programs,
     attribs: &mut Attribs,
     errors: &mut Errors,
@@ -44,8 +47,8 @@ fn execute<D: Driver>(
     command: ObjectCommand,
     driver: &mut D,
 ) -> Result<Reply, ExecStop>
-    requires { IsReady command payload.now (objects_in buffers.old programs.old attribs.old errors.old) (D.history driver.old).state }
-    ensures { Acts D.history D.grown (own_part command payload.now) (objects_in buffers.old programs.old attribs.old errors.old) (objects_in buffers.new programs.new attribs.new errors.new) driver.old driver.new result }
+    requires { IsReady command payload.now (objects_in buffers.old textures.old programs.old attribs.old errors.old) (D.history driver.old).state }
+    ensures { Acts D.history D.grown (own_part command payload.now) (objects_in buffers.old textures.old programs.old attribs.old errors.old) (objects_in buffers.new textures.new programs.new attribs.new errors.new) driver.old driver.new result }
 {
     match command {
         ObjectCommand::GenBuffers { id } => gen_buffers(buffers, id, driver),
@@ -63,6 +66,9 @@ fn execute<D: Driver>(
             buffer_sub_data(buffers, target, offset, payload, driver)
         }
         ObjectCommand::DeleteBuffers { id } => delete_buffers(buffers, attribs, id, driver),
+        ObjectCommand::GenTextures { id } => gen_textures(textures, id, driver),
+        ObjectCommand::BindTexture { target, id } => bind_texture(textures, target, id, driver),
+        ObjectCommand::DeleteTextures { id } => delete_textures(textures, id, driver),
         ObjectCommand::VertexAttrib4f { index, x, y, z, w } => {
             vertex_attrib_4f(attribs, index, x, y, z, w, driver)
         }
@@ -110,6 +116,7 @@ fn execute<D: Driver>(
 pub fn execute_object<D: Driver>(
     alloc: Global,
     buffers: &mut Buffers,
+    textures: &mut Textures,
     programs: &mut Programs,
     attribs: &mut Attribs,
     errors: &mut Errors,
@@ -118,18 +125,18 @@ pub fn execute_object<D: Driver>(
     driver: &mut D,
 ) -> Result<Reply, ExecStop>
     requires given { IsObjectData command payload.now }
-    requires agrees { AgreesIn (objects_in buffers.old programs.old attribs.old errors.old) (D.history driver.old).state }
-    ensures { IsLawful D.history D.grown (Object command) payload.now (objects_in buffers.old programs.old attribs.old errors.old) (objects_in buffers.new programs.new attribs.new errors.new) driver.old driver.new result }
+    requires agrees { AgreesIn (objects_in buffers.old textures.old programs.old attribs.old errors.old) (D.history driver.old).state }
+    ensures { IsLawful D.history D.grown (Object command) payload.now (objects_in buffers.old textures.old programs.old attribs.old errors.old) (objects_in buffers.new textures.new programs.new attribs.new errors.new) driver.old driver.new result }
 {
-    if is_malformed(buffers, programs, command) {
+    if is_malformed(buffers, textures, programs, command) {
         return Err(ExecStop::Bad(Malformed::InvalidArguments));
     }
-    if let Some(error) = refusal(buffers, programs, command, payload) {
+    if let Some(error) = refusal(buffers, textures, programs, command, payload) {
         errors.note(error);
         return Ok(Reply::None);
     }
     execute(
-        alloc, buffers, programs, attribs, errors, payload, command, driver,
+        alloc, buffers, textures, programs, attribs, errors, payload, command, driver,
     )
 }
 
@@ -137,6 +144,7 @@ pub fn execute_object<D: Driver>(
 pub fn object_command<D: Driver>(
     alloc: Global,
     buffers: &mut Buffers,
+    textures: &mut Textures,
     programs: &mut Programs,
     attribs: &mut Attribs,
     errors: &mut Errors,
@@ -145,13 +153,13 @@ pub fn object_command<D: Driver>(
     driver: &mut D,
 ) -> Result<Reply, ExecStop>
     requires family { (c : objects.ObjectCommand) × (command_of command.now ≡ Some (Object c)) × IsObjectData c payload.now }
-    requires agrees { AgreesIn (objects_in buffers.old programs.old attribs.old errors.old) (D.history driver.old).state }
-    ensures { (c : commands.Command) → command_of command.now ≡ Some c → IsLawful D.history D.grown c payload.now (objects_in buffers.old programs.old attribs.old errors.old) (objects_in buffers.new programs.new attribs.new errors.new) driver.old driver.new result }
+    requires agrees { AgreesIn (objects_in buffers.old textures.old programs.old attribs.old errors.old) (D.history driver.old).state }
+    ensures { (c : commands.Command) → command_of command.now ≡ Some c → IsLawful D.history D.grown c payload.now (objects_in buffers.old textures.old programs.old attribs.old errors.old) (objects_in buffers.new textures.new programs.new attribs.new errors.new) driver.old driver.new result }
 {
     let Some(Command::Object(object)) = command.command() else {
         unreachable!();
     };
     execute_object(
-        alloc, buffers, programs, attribs, errors, payload, object, driver,
+        alloc, buffers, textures, programs, attribs, errors, payload, object, driver,
     )
 }

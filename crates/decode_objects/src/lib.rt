@@ -8,6 +8,7 @@ mod command;
 mod links;
 mod programs;
 mod refusals;
+mod textures;
 mod uniforms;
 
 pub use command::{execute_object, object_command};

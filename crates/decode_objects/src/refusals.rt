@@ -1,12 +1,16 @@
 //! The refusals of the commands on objects.
 ghost use Rattle.std.specs.Prelude.{◌≡◌, false};
+ghost use Rattle.std.specs.FinMap as map;
 ghost use Rattle.std.specs.Int.{cast_signed, w32};
+ghost use Rattle.gl_base.specs.Names.{is_over_limit};
 ghost use Rattle.buffer_mgr.specs.Tables.{tables};
+ghost use Rattle.texture_mgr.specs.Tables as textures_as;
 ghost use Rattle.program_mgr.specs.Tables as programs_as;
 ghost use Rattle.gl_plain.specs.Words.{is_negative};
 ghost use Rattle.gl_plain.specs.State.{EsState};
-ghost use Rattle.gl_plain.specs.subjects.Names.{is_bind_over_limit};
+ghost use Rattle.gl_plain.specs.subjects.Names.{Names, is_bind_over_limit};
 ghost use Rattle.gl_plain.specs.subjects.Buffers as plain;
+ghost use Rattle.gl_plain.specs.subjects.Textures as textures_of;
 ghost use Rattle.gl_plain.specs.subjects.Attributes.{array_of};
 ghost use Rattle.gl_plain.specs.object.Arguments.{object_is_bad, IsObjectData};
 ghost use Rattle.gl_plain.specs.object.Refusal.{object_command_refusal};
@@ -15,9 +19,11 @@ use attrib_mgr::{attribute_refusal, pointer_refusal};
 use buffer_mgr::{Buffers, is_buffer_target};
 use gl_base::enums::{DYNAMIC_DRAW, STATIC_DRAW, STREAM_DRAW};
 use gl_base::limits::DATA_LIMIT;
+use gl_base::texture_enums::TEXTURE_CUBE_MAP;
 use gl_base::{GlEnum, is_reserved};
-use gl_plain::{ArraySpec, ArrayWords, GlError, ObjectCommand};
+use gl_plain::{ArraySpec, ArrayWords, GlError, Name, ObjectCommand, is_texture_target};
 use program_mgr::Programs;
+use texture_mgr::Textures;
 
 /// The refusal of GenBuffers for one id: a reserved one is not counted.
 fn gen_buffers_refusal(buffers: &Buffers, id: u32) -> Option<GlError>
@@ -32,10 +38,11 @@ fn gen_buffers_refusal(buffers: &Buffers, id: u32) -> Option<GlError>
     None
 }
 
-fn is_bind_over_limit(buffers: &Buffers, id: u32) -> bool
-    ensures { result ≡ is_bind_over_limit (tables buffers.now).names id }
+/// Whether a bind would bring a name into use that is one too many, by what its table has of the name, and whether one more is too many.
+fn is_bind_over_limit(found: Option<Name>, id: u32, is_full: bool) -> bool
+    ensures { (names : Names) → found ≡ map.get names id → is_full ≡ is_over_limit names 1 → result ≡ is_bind_over_limit names id }
 {
-    buffers.name(id).is_none() && id != 0 && !is_reserved(id) && buffers.is_over_limit(1)
+    found.is_none() && id != 0 && !is_reserved(id) && is_full
 }
 
 /// The refusal of BindBuffer.
@@ -45,8 +52,35 @@ fn bind_buffer_refusal(buffers: &Buffers, target: GlEnum, id: u32) -> Option<GlE
     if !is_buffer_target(target) {
         return Some(GlError::InvalidEnum);
     }
-    if is_bind_over_limit(buffers, id) {
+    if is_bind_over_limit(buffers.name(id), id, buffers.is_over_limit(1)) {
         return Some(GlError::OutOfMemory);
+    }
+    None
+}
+
+/// The refusal of GenTextures for one id.
+fn gen_textures_refusal(textures: &Textures) -> Option<GlError>
+    ensures { result ≡ textures_of.gen_textures_refusal (textures_as.tables textures.now) }
+{
+    if textures.is_over_limit(1) {
+        return Some(GlError::OutOfMemory);
+    }
+    None
+}
+
+/// The refusal of BindTexture.
+fn bind_texture_refusal(textures: &Textures, target: GlEnum, id: u32) -> Option<GlError>
+    ensures { result ≡ textures_of.bind_texture_refusal (textures_as.tables textures.now) target id }
+{
+    if !is_texture_target(target) {
+        return Some(GlError::InvalidEnum);
+    }
+    let found = textures.name(id);
+    if is_bind_over_limit(found, id, textures.is_over_limit(1)) {
+        return Some(GlError::OutOfMemory);
+    }
+    if textures.is_of_other_target(target == TEXTURE_CUBE_MAP, found) {
+        return Some(GlError::InvalidOperation);
     }
     None
 }
@@ -126,13 +160,14 @@ pub fn array_spec(buffers: &Buffers, array: ArrayWords) -> ArraySpec
 /// The code that a command that is not malformed, with its data, is refused with, if any.
 pub fn refusal(
     buffers: &Buffers,
+    textures: &Textures,
     programs: &Programs,
     command: ObjectCommand,
     payload: &[u8],
 ) -> Option<GlError>
     requires given { IsObjectData command payload.now }
-    requires fair { (s : EsState) × (object_is_bad (record s { buffers = tables buffers.now; programs = programs_as.tables programs.now }) command ≡ false) }
-    ensures { (s : EsState) → result ≡ object_command_refusal (record s { buffers = tables buffers.now; programs = programs_as.tables programs.now }) command payload.now }
+    requires fair { (s : EsState) × (object_is_bad (record s { buffers = tables buffers.now; textures = textures_as.tables textures.now; programs = programs_as.tables programs.now }) command ≡ false) }
+    ensures { (s : EsState) → result ≡ object_command_refusal (record s { buffers = tables buffers.now; textures = textures_as.tables textures.now; programs = programs_as.tables programs.now }) command payload.now }
 {
     match command {
         ObjectCommand::GenBuffers { id } => gen_buffers_refusal(buffers, id),
@@ -149,7 +184,9 @@ pub fn refusal(
             size,
             words: _,
         } => buffer_sub_data_refusal(buffers, target, offset, size),
-        ObjectCommand::DeleteBuffers { .. } => None,
+        ObjectCommand::GenTextures { .. } => gen_textures_refusal(textures),
+        ObjectCommand::BindTexture { target, id } => bind_texture_refusal(textures, target, id),
+        ObjectCommand::DeleteBuffers { .. } | ObjectCommand::DeleteTextures { .. } => None,
         ObjectCommand::VertexAttrib4f { index, .. }
         | ObjectCommand::EnableVertexAttribArray { index }
         | ObjectCommand::DisableVertexAttribArray { index } => attribute_refusal(index),

@@ -1,22 +1,24 @@
 -- The bytes beside a command that was read whole are those that its words name.
 use Rattle.std.proofs.Common.{◌≡◌, ℕ, Bool, true, false, not, ◌&&◌, ◌==◌, if◌then◌else◌, List, length, Option, None, Some, refl, sym, ◌∙◌, ap, subst, arith}
 use Rattle.std.proofs.lemmas.Bool.Decides.{nat_tests}
-use Rattle.gl_plain.specs.declared.numbers.TheConstants.{NOOP, SET_TOKEN, GEN_BUFFERS, BIND_BUFFER, BUFFER_DATA, BUFFER_SUB_DATA, DELETE_BUFFERS, VERTEX_ATTRIB_4F, VERTEX_ATTRIB_POINTER, ENABLE_VERTEX_ATTRIB_ARRAY, DISABLE_VERTEX_ATTRIB_ARRAY, SET_BUCKET_SIZE, SET_BUCKET_DATA, GET_BUCKET_START, GET_BUCKET_DATA, CREATE_SHADER, SHADER_SOURCE, COMPILE_SHADER, DELETE_SHADER, CREATE_PROGRAM, ATTACH_SHADER, DETACH_SHADER, BIND_ATTRIB_LOCATION, LINK_PROGRAM, VALIDATE_PROGRAM, USE_PROGRAM, DELETE_PROGRAM, UNIFORM}
+use Rattle.gl_plain.specs.declared.numbers.TheConstants.{NOOP, SET_TOKEN, GEN_BUFFERS, BIND_BUFFER, BUFFER_DATA, BUFFER_SUB_DATA, DELETE_BUFFERS, VERTEX_ATTRIB_4F, VERTEX_ATTRIB_POINTER, ENABLE_VERTEX_ATTRIB_ARRAY, DISABLE_VERTEX_ATTRIB_ARRAY, SET_BUCKET_SIZE, SET_BUCKET_DATA, GET_BUCKET_START, GET_BUCKET_DATA, CREATE_SHADER, SHADER_SOURCE, COMPILE_SHADER, DELETE_SHADER, CREATE_PROGRAM, ATTACH_SHADER, DETACH_SHADER, BIND_ATTRIB_LOCATION, LINK_PROGRAM, VALIDATE_PROGRAM, USE_PROGRAM, DELETE_PROGRAM, UNIFORM, GEN_TEXTURES, BIND_TEXTURE, DELETE_TEXTURES, TEX_IMAGE_2D, TEX_SUB_IMAGE_2D, TEX_PARAMETERI}
 use Rattle.gl_plain.specs.declared.commands.Command.{Command}
-use Rattle.gl_plain.specs.declared.commands.Command.TheVariants.{Bucket, Object, Draw, Query}
+use Rattle.gl_plain.specs.declared.commands.Command.TheVariants.{Bucket, Object, Image, Draw, Query}
 use Rattle.gl_plain.specs.declared.commands.BucketCommand.{BucketCommand}
 use Rattle.gl_plain.specs.declared.commands.DataWords.{DataWords}
 use Rattle.gl_plain.specs.declared.commands.ObjectCommand.{ObjectCommand}
+use Rattle.gl_plain.specs.declared.commands.ImageCommand.{ImageCommand}
 use Rattle.gl_plain.specs.declared.commands.DrawCommand.{DrawCommand}
 use Rattle.gl_plain.specs.declared.commands.QueryCommand.{QueryCommand}
 use Rattle.gl_plain.specs.declared.commands.Fetched.{Fetched}
 use Rattle.gl_plain.specs.Words.{data_at}
 use Rattle.gl_plain.specs.State.{WireState}
-use Rattle.gl_plain.specs.Wire.{given_to}
+use Rattle.gl_plain.specs.Wire.{data_words, given_to}
 use Rattle.gl_plain.specs.subjects.Data.{IsData}
 use Rattle.gl_plain.specs.subjects.Buckets.{Buckets, bucket_at, has_bucket, IsBucketData, breaks_bucket_rule, data_given}
 use Rattle.gl_plain.specs.object.Commands.{object_command_in, program_command_in, object_data_words}
-use Rattle.gl_plain.specs.object.Arguments.{IsDataOf, IsObjectData}
+use Rattle.gl_plain.specs.object.Arguments.{IsDataOf}
+use Rattle.gl_plain.specs.image.Commands.{image_command_in, image_data_words}
 use Rattle.gl_plain.specs.Commands.{bucket_command_in, command_by, command_in, command_of}
 use Rattle.cb_format.specs.Layouts.{layout_of}
 use Rattle.cb_format.specs.Plans.{plan_of, data_plan, data_count}
@@ -67,6 +69,14 @@ plan_uniform : (words : List ℕ) → plan_of UNIFORM words ≡ data_plan 4 word
 unfolding layout_of
 plan_uniform words = refl
 
+plan_tex_image_2d : (words : List ℕ) → plan_of TEX_IMAGE_2D words ≡ data_plan 8 words
+unfolding layout_of
+plan_tex_image_2d words = refl
+
+plan_tex_sub_image_2d : (words : List ℕ) → plan_of TEX_SUB_IMAGE_2D words ≡ data_plan 8 words
+unfolding layout_of
+plan_tex_sub_image_2d words = refl
+
 plan_set_bucket_data : (words : List ℕ) → plan_of SET_BUCKET_DATA words ≡ data_plan 2 words
 unfolding layout_of
 plan_set_bucket_data words = refl
@@ -104,10 +114,20 @@ module _ (number : ℕ) (words payload : List ℕ) (long : length payload ≡ da
       (chosen P (number == BUFFER_DATA) _ _ (beside BUFFER_DATA 3 (plan_buffer_data words))
       (chosen P (number == BUFFER_SUB_DATA) _ _ (beside BUFFER_SUB_DATA 3 (plan_buffer_sub_data words))
       (chosen P (number == DELETE_BUFFERS) _ _ (λ e. tt)
+      (chosen P (number == GEN_TEXTURES) _ _ (λ e. tt)
+      (chosen P (number == BIND_TEXTURE) _ _ (λ e. tt)
+      (chosen P (number == DELETE_TEXTURES) _ _ (λ e. tt)
       (chosen P (number == VERTEX_ATTRIB_4F) _ _ (λ e. tt)
       (chosen P (number == VERTEX_ATTRIB_POINTER) _ _ (λ e. tt)
       (chosen P (number == ENABLE_VERTEX_ATTRIB_ARRAY) _ _ (λ e. tt)
-      (chosen P (number == DISABLE_VERTEX_ATTRIB_ARRAY) _ _ (λ e. tt) program_data))))))))
+      (chosen P (number == DISABLE_VERTEX_ATTRIB_ARRAY) _ _ (λ e. tt) program_data)))))))))))
+
+  image_data : (c : ImageCommand) → image_command_in number words ≡ Some c → IsBesideOf (image_data_words c) payload
+  image_data =
+      let P : ImageCommand → Type 0 = λ c. IsBesideOf (image_data_words c) payload in
+      chosen P (number == TEX_IMAGE_2D) _ _ (beside TEX_IMAGE_2D 8 (plan_tex_image_2d words))
+      (chosen P (number == TEX_SUB_IMAGE_2D) _ _ (beside TEX_SUB_IMAGE_2D 8 (plan_tex_sub_image_2d words))
+      (chosen P (number == TEX_PARAMETERI) _ None (λ e. tt) (λ c is. cc)))
 
   bucket_data : (c : BucketCommand) → bucket_command_in number words ≡ Some c → IsBucketData c payload
   bucket_data =
@@ -120,21 +140,23 @@ module _ (number : ℕ) (words payload : List ℕ) (long : length payload ≡ da
   -- what is so of the bytes beside a command
   abbrev IsBesideCommand : Command → Type 0
   IsBesideCommand (Object c) = IsBesideOf (object_data_words c) payload
+  IsBesideCommand (Image c) = IsBesideOf (image_data_words c) payload
   IsBesideCommand (Bucket c) = IsBucketData c payload
   IsBesideCommand c = Unit {0}
 
-  family_data : (bucket : Option BucketCommand) (object : Option ObjectCommand) (drawing : Option DrawCommand) (query : Option QueryCommand) → ((c : BucketCommand) → bucket ≡ Some c → IsBucketData c payload)
-      → ((c : ObjectCommand) → object ≡ Some c → IsBesideOf (object_data_words c) payload) → (c : Command) → command_by bucket object drawing query ≡ Some c → IsBesideCommand c
-  family_data (Some b) object drawing query first there c is = let same : Bucket b ≡ c = cc in subst IsBesideCommand same (first b refl)
-  family_data None (Some o) drawing query first there c is = let same : Object o ≡ c = cc in subst IsBesideCommand same (there o refl)
-  family_data None None (Some q) query first there c is = let same : Draw q ≡ c = cc in subst IsBesideCommand same tt
-  family_data None None None (Some q) first there c is = let same : Query q ≡ c = cc in subst IsBesideCommand same tt
-  family_data None None None None first there c is = cc
+  family_data : (bucket : Option BucketCommand) (object : Option ObjectCommand) (image : Option ImageCommand) (drawing : Option DrawCommand) (query : Option QueryCommand) → ((c : BucketCommand) → bucket ≡ Some c → IsBucketData c payload)
+      → ((c : ObjectCommand) → object ≡ Some c → IsBesideOf (object_data_words c) payload) → ((c : ImageCommand) → image ≡ Some c → IsBesideOf (image_data_words c) payload) → (c : Command) → command_by bucket object image drawing query ≡ Some c → IsBesideCommand c
+  family_data (Some b) object image drawing query first there last c is = let same : Bucket b ≡ c = cc in subst IsBesideCommand same (first b refl)
+  family_data None (Some o) image drawing query first there last c is = let same : Object o ≡ c = cc in subst IsBesideCommand same (there o refl)
+  family_data None None (Some i) drawing query first there last c is = let same : Image i ≡ c = cc in subst IsBesideCommand same (last i refl)
+  family_data None None None (Some q) query first there last c is = let same : Draw q ≡ c = cc in subst IsBesideCommand same tt
+  family_data None None None None (Some q) first there last c is = let same : Query q ≡ c = cc in subst IsBesideCommand same tt
+  family_data None None None None None first there last c is = cc
 
   spelled_data : (c : Command) → command_in number words ≡ Some c → IsBesideCommand c
   spelled_data =
       chosen IsBesideCommand (number == NOOP) _ _ (λ e. tt)
-      (chosen IsBesideCommand (number == SET_TOKEN) _ _ (λ e. tt) (family_data _ _ _ _ bucket_data object_data))
+      (chosen IsBesideCommand (number == SET_TOKEN) _ _ (λ e. tt) (family_data _ _ _ _ _ bucket_data object_data image_data))
 
 -- of a command on a bucket
 pub readable_bucket : (f : Fetched) → IsReadable f → (c : BucketCommand) → command_of f ≡ Some (Bucket c) → IsBucketData c f.payload
@@ -156,19 +178,26 @@ given_data buckets (Some w) payload whole beside = by_source (w.source == 2) ref
     }
     by_source false e h = record { shared = beside.shared; bucket = λ two. let f : (2 == 2) ≡ false = subst (λ n. (n == 2) ≡ false) two e in absurd (cc); none = beside.none }
 
--- of a command on objects, with the data that it is given
-readable_object : (f : Fetched) → IsReadable f → (buckets : Buckets) (c : ObjectCommand) → command_of f ≡ Some (Object c) → breaks_bucket_rule buckets (object_data_words c) ≡ false → IsObjectData c (data_given buckets (object_data_words c) f.payload)
-readable_object f readable buckets c is whole = given_data buckets (object_data_words c) f.payload whole (spelled_data f.number f.words.items f.payload readable.payload (Object c) is)
+-- what the execution of a command is given: its data, which breaks no rule of a bucket
+pub record IsGiven (f : Fetched) (w : WireState) (c : Command) (payload : List ℕ) : Type 0 where
+  pub given : IsDataOf (data_words c) payload
+  pub whole : breaks_bucket_rule w.buckets (data_words c) ≡ false
+  pub is : payload ≡ given_to w c f.payload
 
--- what the execution of a command on objects is given: its data, which breaks no rule of a bucket
-pub record IsGiven (f : Fetched) (w : WireState) (c : ObjectCommand) (payload : List ℕ) : Type 0 where
-  pub given : IsObjectData c payload
-  pub whole : breaks_bucket_rule w.buckets (object_data_words c) ≡ false
-  pub is : payload ≡ given_to w (Object c) f.payload
+module _ (f : Fetched) (readable : IsReadable f) (w : WireState) where
+  given_command : (c : Command) (words : Option DataWords) (beside payload : List ℕ) → IsBesideOf (data_words c) f.payload → words ≡ data_words c → beside ≡ f.payload → breaks_bucket_rule w.buckets words ≡ false → payload ≡ data_given w.buckets words beside
+      → IsGiven f w c payload
+  given_command c words beside payload lies named same whole from =
+      let unbroken : breaks_bucket_rule w.buckets (data_words c) ≡ false = cc in
+      let it : payload ≡ data_given w.buckets (data_words c) f.payload = cc in
+      record { given = subst (IsDataOf (data_words c)) (sym it) (given_data w.buckets (data_words c) f.payload unbroken lies); whole = unbroken; is = it }
 
-pub given_object : (f : Fetched) → IsReadable f → (w : WireState) (c : ObjectCommand) (words : Option DataWords) (beside payload : List ℕ) → command_of f ≡ Some (Object c) → words ≡ object_data_words c → beside ≡ f.payload
-    → breaks_bucket_rule w.buckets words ≡ false → payload ≡ data_given w.buckets words beside → IsGiven f w c payload
-given_object f readable w c words beside payload spelled named same whole from =
-    let unbroken : breaks_bucket_rule w.buckets (object_data_words c) ≡ false = cc in
-    let it : payload ≡ data_given w.buckets (object_data_words c) f.payload = cc in
-    record { given = subst (IsObjectData c) (sym it) (readable_object f readable w.buckets c spelled unbroken); whole = unbroken; is = it }
+  -- of a command on objects
+  pub given_object : (c : ObjectCommand) (words : Option DataWords) (beside payload : List ℕ) → command_of f ≡ Some (Object c) → words ≡ object_data_words c → beside ≡ f.payload → breaks_bucket_rule w.buckets words ≡ false → payload ≡ data_given w.buckets words beside
+      → IsGiven f w (Object c) payload
+  given_object c words beside payload spelled = given_command (Object c) words beside payload (spelled_data f.number f.words.items f.payload readable.payload (Object c) spelled)
+
+  -- of a command on images
+  pub given_image : (c : ImageCommand) (words : Option DataWords) (beside payload : List ℕ) → command_of f ≡ Some (Image c) → words ≡ image_data_words c → beside ≡ f.payload → breaks_bucket_rule w.buckets words ≡ false → payload ≡ data_given w.buckets words beside
+      → IsGiven f w (Image c) payload
+  given_image c words beside payload spelled = given_command (Image c) words beside payload (spelled_data f.number f.words.items f.payload readable.payload (Image c) spelled)

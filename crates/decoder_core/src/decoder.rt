@@ -1,11 +1,11 @@
 //! The decoder: the execution of commands one by one, up to a stop.
-ghost use Rattle.std.specs.Prelude.{◌≡◌, None, IfNone, IfSome};
+ghost use Rattle.std.specs.Prelude.{◌≡◌, None, IfNone, IfOk, IfSome};
 
 use crate::outcome::Outcome;
 use crate::tables::Tables;
 use gl_driver::Driver;
 use gl_plain::{ExecStop, Fetched};
-use std::alloc::Global;
+use std::alloc::{AllocError, Global};
 
 /// The tables of the service, and why they execute no more, if they stopped.
 #[derive(Drop)]
@@ -22,15 +22,15 @@ impl Decoder {
     ghost use Rattle.decoder_core.specs.Execution.{Performs};
     ghost use Rattle.decoder_core.specs.Decoders.{decoder_state, decoder_stop, StaysStopped};
 
-    /// The opening state, for a default framebuffer of this width and height. It takes no memory.
-    pub fn new(alloc: Global, surface: (u32, u32)) -> Decoder
-        ensures opening { decoder_state result ≡ opening_wire surface }
-        ensures going { decoder_stop result ≡ None }
+    /// The opening state, for a default framebuffer of this width and height. The default textures take memory.
+    pub fn new(alloc: Global, surface: (u32, u32)) -> Result<Decoder, AllocError>
+        ensures opening { IfOk result (λ decoder. decoder_state decoder ≡ opening_wire surface) }
+        ensures going { IfOk result (λ decoder. decoder_stop decoder ≡ None) }
     {
-        Decoder {
-            tables: Tables::new(alloc, surface),
+        Ok(Decoder {
+            tables: Tables::new(alloc, surface)?,
             stop: None,
-        }
+        })
     }
 
     /// The token that was set last, or 0.

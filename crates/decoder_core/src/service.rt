@@ -1,5 +1,5 @@
 //! The service: commands are fetched and executed, one copy or one command a step.
-ghost use Rattle.std.specs.Prelude.{◌≡◌, ◌≤◌, [], None, Some};
+ghost use Rattle.std.specs.Prelude.{◌≡◌, ◌≤◌, [], None, Some, IfOk};
 ghost use Rattle.gl_plain.specs.Agreement.{Agrees};
 ghost use Rattle.gl_driver.specs.History.{History};
 ghost use Rattle.decoder_core.specs.StopOutcomes.{step_of};
@@ -16,7 +16,7 @@ use cb_fetch::{FetchOutcome, Fetcher};
 use cb_shm::Shm;
 use gl_driver::Driver;
 use gl_plain::{Fetched, Stop};
-use std::alloc::Global;
+use std::alloc::{AllocError, Global};
 use std::marker::Model;
 
 /// The service of a command buffer. It reads the commands of a ring, region 0 of shared memory, and executes each as it was read: what
@@ -56,18 +56,18 @@ fn stopped(kept: &mut Option<ServiceStop>, stop: ServiceStop) -> StepOutcome
 
 impl Service {
     /// A service of a ring of so many entries of 4 bytes, in the opening state for a default framebuffer of this width and height, with
-    /// get and put at entry 0. It takes no memory.
-    pub fn new(alloc: Global, surface: (u32, u32), entries: u32) -> Service
+    /// get and put at entry 0. The default textures take memory.
+    pub fn new(alloc: Global, surface: (u32, u32), entries: u32) -> Result<Service, AllocError>
         requires some { 2 ≤ entries }
         requires few { entries ≤ 1048576 }
-        ensures { IsNewService surface entries result }
+        ensures { IfOk result (IsNewService surface entries) }
     {
-        Service {
+        Ok(Service {
             fetcher: Fetcher::new(alloc, entries),
-            tables: Tables::new(alloc, surface),
+            tables: Tables::new(alloc, surface)?,
             waiting: None,
             stop: None,
-        }
+        })
     }
 
     /// The client publishes put: the commands before this entry are there to be executed. Any number may be published.

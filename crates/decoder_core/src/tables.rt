@@ -1,5 +1,5 @@
 //! The tables of the service, and the execution of one command by them.
-ghost use Rattle.std.specs.Prelude.{◌≡◌, ℕ, List, IfSome, is_none};
+ghost use Rattle.std.specs.Prelude.{◌≡◌, ℕ, List, IfOk, IfSome, is_none};
 ghost use Rattle.gl_plain.specs.declared.commands.Command.TheVariants.{Bucket, Query, SetToken};
 ghost use Rattle.gl_plain.specs.declared.commands.BucketCommand.TheVariants as buckets;
 ghost use Rattle.gl_plain.specs.subjects.Buckets.{IsBucketData, breaks_bucket_rule, data_given};
@@ -8,6 +8,7 @@ use attrib_mgr::Attribs;
 use bucket_store::Buckets;
 use buffer_mgr::Buffers;
 use decode_draw::execute_draw;
+use decode_images::execute_image;
 use decode_objects::execute_object;
 use gl_base::limits::{DATA_LIMIT, LAST_BUCKET, LAST_TOKEN};
 use gl_driver::Driver;
@@ -16,8 +17,9 @@ use gl_plain::{
     Reply,
 };
 use program_mgr::Programs;
-use std::alloc::Global;
+use std::alloc::{AllocError, Global};
 use svc_raster::Raster;
+use texture_mgr::Textures;
 
 /// The source of data in shared memory.
 const IN_MEMORY: u32 = 1;
@@ -31,6 +33,7 @@ pub struct Tables {
     alloc: Global,
     surface: (u32, u32),
     buffers: Buffers,
+    textures: Textures,
     programs: Programs,
     attribs: Attribs,
     raster: Raster,
@@ -39,7 +42,7 @@ pub struct Tables {
     token: u32,
 }
 
-/// The data of a command on objects: what its bucket has, or else the bytes that came beside it. None where its words name a bucket and break a
+/// The data of a command on objects or images: what its bucket has, or else the bytes that came beside it. None where its words name a bucket and break a
 /// rule of it: there is none of this number, the last word is not 0, or the bucket has other than so many bytes.
 fn data_of<'a>(
     buckets: &'a Buckets,
@@ -71,21 +74,22 @@ impl Tables {
     ghost use Rattle.cb_fetch.specs.Readable.{IsReadable};
     ghost use Rattle.decoder_core.specs.Execution.{state_of, ActsAlone, Performs};
 
-    /// The opening tables, for a default framebuffer of this width and height. They take no memory.
-    pub fn new(alloc: Global, surface: (u32, u32)) -> Tables
-        ensures { state_of result ≡ opening_wire surface }
+    /// The opening tables, for a default framebuffer of this width and height. The default textures take memory.
+    pub fn new(alloc: Global, surface: (u32, u32)) -> Result<Tables, AllocError>
+        ensures { IfOk result (λ tables. state_of tables ≡ opening_wire surface) }
     {
-        Tables {
+        Ok(Tables {
             alloc,
             surface,
             buffers: Buffers::new(alloc),
+            textures: Textures::new(alloc)?,
             programs: Programs::new(alloc),
             attribs: Attribs::new(),
             raster: Raster::new(surface.0, surface.1),
             errors: Errors::new(),
             buckets: Buckets::new(alloc),
             token: 0,
-        }
+        })
     }
 
     /// The token that was set last, or 0.
@@ -217,6 +221,7 @@ impl Tables {
                 execute_object(
                     self.alloc,
                     &mut self.buffers,
+                    &mut self.textures,
                     &mut self.programs,
                     &mut self.attribs,
                     &mut self.errors,
@@ -225,8 +230,24 @@ impl Tables {
                     driver,
                 )
             }
+            Some(Command::Image(image)) => {
+                let beside = command.payload.as_slice();
+                let Some(payload) = data_of(&self.buckets, image.data_words(), beside) else {
+                    return Err(ExecStop::Bad(Malformed::InvalidArguments));
+                };
+                execute_image(
+                    self.alloc,
+                    &mut self.textures,
+                    &self.raster,
+                    &mut self.errors,
+                    payload,
+                    image,
+                    driver,
+                )
+            }
             Some(Command::Draw(drawing)) => execute_draw(
                 &self.buffers,
+                &mut self.textures,
                 &self.programs,
                 &self.attribs,
                 &mut self.raster,

@@ -8,18 +8,12 @@ use crate::units::{any_unit_fails, black_bits};
 use gl_base::enums::{FRAMEBUFFER_COMPLETE, TRIANGLE_FAN};
 use gl_plain::{DrawPlan, DrawView, GlError};
 
-/// What a draw of nothing does.
-const NO_DRAW: DrawPlan = DrawPlan {
-    draw: false,
-    black: 0,
-};
-
 /// What a draw does that is not refused: without an executable nothing is drawn.
 fn plan_of(view: &DrawView) -> DrawPlan
     ensures { result ≡ d.plan_of view.now }
 {
     if !view.program {
-        return NO_DRAW;
+        return DrawPlan::none();
     }
     DrawPlan {
         draw: true,
@@ -57,7 +51,7 @@ pub fn check(view: &DrawView, first: i32, count: i32) -> Result<DrawPlan, GlErro
         return Err(GlError::InvalidFramebufferOperation);
     }
     if count == 0 {
-        return Ok(NO_DRAW);
+        return Ok(DrawPlan::none());
     }
     check_elements(
         view,

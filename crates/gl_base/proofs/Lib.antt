@@ -1,4 +1,8 @@
--- The lemmas on maps of numbers.
+-- The lemmas on maps of numbers, and on rectangles.
 pub mod Maps
 pub mod Found
 pub mod Counted
+pub mod Rects
+pub mod Unions
+pub mod Rest
+pub mod Rows

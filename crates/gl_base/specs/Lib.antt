@@ -3,4 +3,5 @@ pub mod Names
 pub mod Lent
 pub mod ErrorNames
 pub mod Rects
+pub mod PixelSizes
 pub mod Floats

@@ -60,3 +60,6 @@ pub const SIDE_LIMIT: u32 = 2048;
 
 /// The greatest value of a stencil buffer, which has 8 bits (STENCIL_BITS).
 pub const LAST_STENCIL: u32 = 255;
+
+/// The last level of a texture's images, which has one pixel where level 0 has the greatest sides (section 3.7.1).
+pub const LAST_LEVEL: u32 = 11;

@@ -1,5 +1,5 @@
 -- The two laws of `Served`, and what follows of a stop.
-use Rattle.std.proofs.Common.{ℕ, Bool, true, false, ◌||◌, None, Some, Option, inl, inr, ◌⊎◌, arith, ◌≤◌, ◌≡◌, List, [], ◌∷◌, ◌++◌, refl, sym, ◌∙◌, ap, append_assoc, append-nil, Result, Ok}
+use Rattle.std.proofs.Common.{ℕ, Bool, true, false, ◌||◌, None, Some, Option, inl, inr, ◌⊎◌, arith, ◌≤◌, ◌≡◌, List, [], ◌∷◌, ◌++◌, refl, sym, ◌∙◌, ap, append_assoc, append-nil, Ok}
 use Rattle.gl_plain.specs.Journal.{state_after}
 use Rattle.gl_plain.specs.declared.driver_calls.DriverEntry.{DriverEntry}
 use Rattle.gl_plain.proofs.Journals.{state_after-append, IsLegal-append}

@@ -1,18 +1,18 @@
 -- How a command comes to have done what it means.
-use Rattle.std.proofs.Common.{◌≡◌, false, true, List, [], ◌∷◌, ◌++◌, Some, Result, Ok, Err, refl, sym, ◌∙◌, ap, append_assoc}
+use Rattle.std.proofs.Common.{◌≡◌, false, List, [], ◌∷◌, ◌++◌, Some, Result, Ok, Err, refl, sym, ◌∙◌, ap, append_assoc}
 use Rattle.gl_plain.specs.declared.driver_calls.DriverEntry.{DriverEntry}
 use Rattle.gl_plain.specs.declared.driver_calls.DriverCall.{DriverCall}
 use Rattle.gl_plain.specs.declared.calls.Reply.{Reply}
 use Rattle.gl_plain.specs.declared.stop.ExecStop.{ExecStop}
 use Rattle.gl_plain.specs.declared.stop.ExecStop.TheVariants.{Bad, Lost, NoMemory}
-use Rattle.gl_plain.specs.Oracle.{Oracle}
+use Rattle.gl_plain.specs.Oracle.{Oracle, default_answers}
 use Rattle.gl_plain.specs.driver.Answers.{told}
 use Rattle.gl_plain.specs.Meaning.{Meaning}
 use Rattle.gl_plain.specs.Parts.{calls_in}
 use Rattle.gl_plain.proofs.Journals.{told-append, calls_in-append}
 use Rattle.gl_driver.specs.History.{History, Counted, Served, Caused, stop_of}
 use Rattle.gl_driver.specs.Stops.{stop_of_driver}
-use Rattle.gl_driver.specs.Performed.{Leads, IsOutcome}
+use Rattle.gl_driver.specs.Performed.{Leads, StoppedIn, IsOutcome}
 use Rattle.gl_driver.specs.declared.stop.DriverStop.{DriverStop}
 use Rattle.gl_driver.specs.declared.stop.DriverStop.TheVariants as driver
 
@@ -25,6 +25,24 @@ module _ {S : Type 0} (m : Meaning S) (before after : S) where
       → IsOutcome m (history d) (history d2) [] before after (Err (stop_of_driver stop))
   outcome-stopped d d2 driver.Lost r is served caused fair call = record { stopped = caused.stop ∙ is; cause = served.counted.lost (caused.stop ∙ is); fair = fair; front = call }
   outcome-stopped d d2 driver.NoMemory r is served caused fair call = ((call.0, call.1 ∷ call.2, call.3), λ bad. refl)
+
+  -- the driver stopped in calls that the command begins with
+  pub outcome-stopped_in : {D : Type 0} {history : D → History} {grown : D → D → Type 0} (d d2 : D) (stop : DriverStop) {calls : List DriverCall} (stopped : StoppedIn history grown d d2 calls stop) → m.bad ≡ false
+      → (left : List DriverCall) × (calls ++ left ≡ m.calls (told stopped.entries default_answers)) → IsOutcome m (history d) (history d2) stopped.entries before after (Err (stop_of_driver stop))
+  outcome-stopped_in d d2 driver.Lost s fair first = record {
+    stopped = s.caused.stop;
+    cause = s.served.counted.lost s.caused.stop;
+    fair = fair;
+    front = (default_answers, s.next, s.more ++ first.0, sym (append_assoc (calls_in s.entries) (s.next ∷ s.more) first.0) ∙ ap (λ (calls : List DriverCall). calls ++ first.0) s.front ∙ first.1);
+  }
+  outcome-stopped_in d d2 driver.NoMemory s fair first = (
+    (
+      default_answers,
+      s.next ∷ (s.more ++ first.0),
+      sym (append_assoc (calls_in s.entries) (s.next ∷ s.more) first.0) ∙ ap (λ (calls : List DriverCall). calls ++ first.0) s.front ∙ first.1,
+    ),
+    λ bad. cc,
+  )
 
   -- behind entries at which the driver did not stop the command goes on
   pub outcome-goes_on : (m1 : Meaning S) (before1 : S) (es fs : List DriverEntry) (h h1 h2 : History) (result : Result Reply ExecStop) → Counted h h2 (es ++ fs) → h1.stop ≡ h.stop → Leads m m1 es

@@ -2,3 +2,4 @@
 pub mod History
 pub mod Stops
 pub mod Performed
+pub mod Payloads

@@ -10,13 +10,15 @@ use Rattle.gl_plain.specs.declared.stop.ExecStop.{ExecStop}
 use Rattle.gl_plain.specs.declared.stop.ExecStop.TheVariants.{Bad, Lost, NoMemory}
 use Rattle.gl_plain.specs.Oracle.{Oracle}
 use Rattle.gl_plain.specs.driver.Answers.{told}
-use Rattle.gl_plain.specs.State.{WireState}
+use Rattle.gl_plain.specs.State.{WireState, DriverState}
+use Rattle.gl_plain.specs.Journal.{IsLegal, state_after}
+use Rattle.gl_plain.specs.driver.Allowed.{IsAllowed}
 use Rattle.gl_plain.specs.Meaning.{Meaning, command_meaning}
 use Rattle.gl_plain.specs.Records.{contents_after, step_records}
 use Rattle.gl_plain.specs.Parts.{calls_in, IsPartOf, IsFairFrontOf, IsProperFrontOf}
 use Rattle.gl_plain.specs.Agreement.{Agrees}
 use Rattle.gl_plain.specs.Lawful.{Keeps}
-use Rattle.gl_driver.specs.History.{History, Served, Rose}
+use Rattle.gl_driver.specs.History.{History, Served, Caused, Rose}
 use Rattle.gl_driver.specs.declared.stop.DriverStop.{DriverStop}
 use Rattle.gl_driver.specs.declared.stop.DriverStop.TheVariants as driver
 
@@ -69,8 +71,34 @@ pub record Leads {S : Type 0} (m m1 : Meaning S) (entries : List DriverEntry) : 
   pub step : (o : Oracle) → m.step (told entries o) ≡ m1.step o
   pub calls : (o : Oracle) → m.calls (told entries o) ≡ calls_in entries ++ m1.calls o
 
--- these entries were made since, and with the calls that are left they are all of these calls
+-- these entries were made since, and with the calls that are left they are all of these calls; the driver's stop is as before
 pub record Underway {D : Type 0} (history : D → History) (grown : D → D → Type 0) (d d2 : D) (calls left : List DriverCall) : Type 0 where
   pub entries : List DriverEntry
   pub served : Served history grown d d2 entries
   pub so_far : calls_in entries ++ left ≡ calls
+  pub going : (history d2).stop ≡ (history d).stop
+
+-- all of these calls were made since, and the driver's stop is as before
+pub record Made {D : Type 0} (history : D → History) (grown : D → D → Type 0) (d d2 : D) (calls : List DriverCall) : Type 0 where
+  pub entries : List DriverEntry
+  pub served : Served history grown d d2 entries
+  pub all : calls_in entries ≡ calls
+  pub going : (history d2).stop ≡ (history d).stop
+
+-- the first of these calls were made since, and the driver stopped at the next one
+pub record StoppedIn {D : Type 0} (history : D → History) (grown : D → D → Type 0) (d d2 : D) (calls : List DriverCall) (stop : DriverStop) : Type 0 where
+  pub entries : List DriverEntry
+  pub served : Served history grown d d2 entries
+  pub next : DriverCall
+  pub more : List DriverCall
+  pub front : calls_in entries ++ next ∷ more ≡ calls
+  pub caused : Caused {T = Unit {0}} (history d) (history d2) (Err stop)
+
+-- each of these calls may be made behind those before it, whatever is answered
+abbrev pub MayMake : DriverState → List DriverCall → Type 0
+MayMake d calls = (es : List DriverEntry) (next : DriverCall) (more : List DriverCall) → IsLegal d es → calls_in es ++ next ∷ more ≡ calls → IsAllowed (state_after d es) next
+
+-- what comes of making these calls in order
+abbrev pub MakesAll : {D : Type 0} (history : D → History) (grown : D → D → Type 0) (d d2 : D) → List DriverCall → Result (Unit {0}) DriverStop → Type 0
+MakesAll history grown d d2 calls (Ok u) = Made history grown d d2 calls
+MakesAll history grown d d2 calls (Err stop) = StoppedIn history grown d d2 calls stop

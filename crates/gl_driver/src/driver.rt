@@ -2,16 +2,18 @@
 ghost use Rattle.std.specs.Prelude.{◌≡◌, IfOk};
 ghost use Rattle.gl_plain.specs.driver.Allowed.{IsAllowed};
 ghost use Rattle.gl_plain.specs.driver.Answers.{stored_answer};
-ghost use Rattle.gl_plain.specs.declared.driver_calls.DriverCall.TheVariants.{Object, Program, Draw};
-ghost use Rattle.gl_plain.specs.declared.driver_calls.ObjectDriver.TheVariants.{GenBuffer, BindBuffer, BufferData, BufferSubData, DeleteBuffer, VertexAttrib4, VertexAttribPointer, SetArray};
+ghost use Rattle.gl_plain.specs.declared.driver_calls.DriverCall.TheVariants.{Object, Image, Program, Draw};
+ghost use Rattle.gl_plain.specs.declared.driver_calls.ObjectDriver.TheVariants.{GenBuffer, BindBuffer, BufferData, BufferSubData, DeleteBuffer, GenTexture, BindTexture, DeleteTexture, VertexAttrib4, VertexAttribPointer, SetArray};
+ghost use Rattle.gl_plain.specs.declared.driver_calls.ImageDriver.TheVariants.{TexImage, TexSubImage, ZeroLevel, TexParameter};
 ghost use Rattle.gl_plain.specs.declared.driver_calls.ProgramDriver.TheVariants as programs;
 ghost use Rattle.gl_plain.specs.declared.driver_calls.DrawDriver.TheVariants as drawing;
 ghost use Rattle.gl_plain.specs.declared.driver_calls.Answer.TheVariants.{Name, Compile, Link, Validate};
 ghost use Rattle.gl_driver.specs.History.{History, Served, Caused, Rose, entered, done};
+ghost use Rattle.gl_driver.specs.Payloads.{payload_given};
 
 use crate::stop::DriverStop;
-use gl_base::GlEnum;
-use gl_plain::{Bytes, LinkAnswer, Stored};
+use gl_base::{GlEnum, Rect};
+use gl_plain::{Bytes, ImagePlace, LinkAnswer, PartWords, Stored};
 
 /// A driver of OpenGL ES. Each call says in which state it may be made, and what it enters in the journal: the call with its answer,
 /// or nothing where it stops.
@@ -62,6 +64,23 @@ pub trait Driver {
         ensures served { Served history grown self.old self.new (entered result (Object (DeleteBuffer name)) done) }
         ensures cause { Caused (history self.old) (history self.new) result };
 
+    /// A new texture name, which was never given before.
+    fn gen_texture(&mut self) -> Result<u64, DriverStop>
+        ensures served { Served history grown self.old self.new (entered result (Object GenTexture) Name) }
+        ensures cause { Caused (history self.old) (history self.new) result };
+
+    /// Has the active unit bind a texture by its name, or the default texture by 0.
+    fn bind_texture(&mut self, target: GlEnum, name: u64) -> Result<(), DriverStop>
+        requires { IsAllowed (history self.old).state (Object (BindTexture target name)) }
+        ensures served { Served history grown self.old self.new (entered result (Object (BindTexture target name)) done) }
+        ensures cause { Caused (history self.old) (history self.new) result };
+
+    /// Deletes a texture with its name and its images. No unit binds it from then on.
+    fn delete_texture(&mut self, name: u64) -> Result<(), DriverStop>
+        requires { IsAllowed (history self.old).state (Object (DeleteTexture name)) }
+        ensures served { Served history grown self.old self.new (entered result (Object (DeleteTexture name)) done) }
+        ensures cause { Caused (history self.old) (history self.new) result };
+
     /// Sets the value that a vertex attribute has where its array is not enabled, as four float patterns.
     fn vertex_attrib_4(&mut self, index: u32, values: [u32; 4]) -> Result<(), DriverStop>
         requires { IsAllowed (history self.old).state (Object (VertexAttrib4 index values)) }
@@ -86,6 +105,66 @@ pub trait Driver {
     fn set_array(&mut self, index: u32, on: bool) -> Result<(), DriverStop>
         requires { IsAllowed (history self.old).state (Object (SetArray index on)) }
         ensures served { Served history grown self.old self.new (entered result (Object (SetArray index on)) done) }
+        ensures cause { Caused (history self.old) (history self.new) result };
+
+    /// Makes an image for a level of what the target binds: these rows, without padding, or none. `Oom` where there is no room for it, which
+    /// leaves the state as it was.
+    fn tex_image(
+        &mut self,
+        target: GlEnum,
+        level: i32,
+        format: GlEnum,
+        kind: GlEnum,
+        width: i32,
+        height: i32,
+        bytes: Option<&[u8]>,
+    ) -> Result<Stored, DriverStop>
+        requires { IsAllowed (history self.old).state (Image (TexImage target level format kind width height (payload_given bytes))) }
+        ensures served { Served history grown self.old self.new (entered result (Image (TexImage target level format kind width height (payload_given bytes.entry))) stored_answer) }
+        ensures cause { Caused (history self.old) (history self.new) result }
+        ensures oom { IfOk result (λ s. s ≡ Stored.Oom → Rose (history self.old).ooms (history self.new).ooms) };
+
+    /// Gives a rectangle of a level of what the target binds these rows, without padding.
+    fn tex_sub_image(
+        &mut self,
+        target: GlEnum,
+        level: i32,
+        x: i32,
+        y: i32,
+        width: i32,
+        height: i32,
+        format: GlEnum,
+        kind: GlEnum,
+        bytes: &[u8],
+    ) -> Result<(), DriverStop>
+        requires { IsAllowed (history self.old).state (Image (TexSubImage (record { target = target; level = level; x = x; y = y; width = width; height = height; format = format; kind = kind }) bytes.now)) }
+        ensures served { Served history grown self.old self.new (entered result (Image (TexSubImage (record { target = target; level = level; x = x; y = y; width = width; height = height; format = format; kind = kind }) bytes.now)) done) }
+        ensures cause { Caused (history self.old) (history self.new) result };
+
+    /// Turns a rectangle of an image to zero. The image is named by its texture, or the default texture by 0, its face and its level.
+    fn zero_level(
+        &mut self,
+        name: u64,
+        face: GlEnum,
+        level: u32,
+        x: u32,
+        y: u32,
+        width: u32,
+        height: u32,
+    ) -> Result<(), DriverStop>
+        requires { IsAllowed (history self.old).state (Image (ZeroLevel (record { texture = name; face = face; level = level }) (record { x = x; y = y; width = width; height = height }))) }
+        ensures served { Served history grown self.old self.new (entered result (Image (ZeroLevel (record { texture = name; face = face; level = level }) (record { x = x; y = y; width = width; height = height }))) done) }
+        ensures cause { Caused (history self.old) (history self.new) result };
+
+    /// Sets a parameter of what the target binds.
+    fn tex_parameter(
+        &mut self,
+        target: GlEnum,
+        parameter: GlEnum,
+        value: GlEnum,
+    ) -> Result<(), DriverStop>
+        requires { IsAllowed (history self.old).state (Image (TexParameter target parameter value)) }
+        ensures served { Served history grown self.old self.new (entered result (Image (TexParameter target parameter value)) done) }
         ensures cause { Caused (history self.old) (history self.new) result };
 
     /// A new shader of this kind, under a name that was never given before.
@@ -174,6 +253,12 @@ pub trait Driver {
     ) -> Result<(), DriverStop>
         requires { IsAllowed (history self.old).state (Program (programs.Uniform location kind count bytes.now)) }
         ensures served { Served history grown self.old self.new (entered result (Program (programs.Uniform location kind count bytes.now)) done) }
+        ensures cause { Caused (history self.old) (history self.new) result };
+
+    /// Has the texture unit of this number, from 0, be the active one.
+    fn active_texture(&mut self, unit: u32) -> Result<(), DriverStop>
+        requires { IsAllowed (history self.old).state (Draw (drawing.ActiveTexture unit)) }
+        ensures served { Served history grown self.old self.new (entered result (Draw (drawing.ActiveTexture unit)) done) }
         ensures cause { Caused (history self.old) (history self.new) result };
 
     /// Sets words of the fixed state: those of the command of this number, as they are kept (from Enable to Viewport, but for PixelStorei).

@@ -3,7 +3,9 @@
 
 mod driver;
 mod stop;
+mod zeroing;
 
 pub use driver::Driver;
 pub use gl_plain::Stored;
 pub use stop::DriverStop;
+pub use zeroing::zero_rects;

@@ -11,7 +11,7 @@ use Rattle.gl_plain.specs.declared.driver_calls.DriverEntry.{DriverEntry}
 use Rattle.gl_plain.specs.declared.driver_calls.ObjectDriver.TheVariants as calls
 use Rattle.gl_plain.specs.subjects.Attributes.{attribute_refusal, vertex_attrib_4f_effect, vertex_attrib_pointer_effect, vertex_attrib_pointer_refusal, set_array_effect, object_of}
 use Rattle.gl_plain.specs.Words.{natural}
-use Rattle.gl_plain.specs.State.{EsState, DriverTables, DriverState}
+use Rattle.gl_plain.specs.State.{EsState, DriverState}
 use Rattle.gl_plain.specs.driver.Allowed.{IsAllowed}
 use Rattle.gl_plain.specs.driver.Answers.{told}
 use Rattle.gl_plain.specs.Journal.{state_after}
@@ -19,14 +19,11 @@ use Rattle.gl_plain.specs.Agreement.{TablesAgree}
 use Rattle.gl_plain.specs.object.Step.{object_step}
 use Rattle.gl_laws.proofs.Lists.{one_entry, front_of_one}
 use Rattle.gl_laws.proofs.OwnLaws.{StepLeft, OwnMayGoOn, OwnLeaves}
+use Rattle.gl_laws.proofs.Tables.{with_attributes}
 
 -- an index that is not refused
 index_within : (index : ℕ) → attribute_refusal index ≡ None → index ≤ LAST_ATTRIBUTE
 index_within index allowed = grind arith
-
--- the tables with other attributes
-with_attributes : (s : EsState) (t : DriverTables) (x y : VertexAttributes) → TablesAgree s t → x ≡ y → TablesAgree (record s { attribs = x }) (record t { attribs = y })
-with_attributes s t x y a same = record { surface = a.surface; buffers = a.buffers; attribs = same; programs = a.programs; raster = a.raster }
 
 module _ (s : EsState) (d : DriverState) (a : TablesAgree s d.tables) (index : ℕ) (payload : List ℕ) where
   -- VertexAttrib4f

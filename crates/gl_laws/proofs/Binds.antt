@@ -1,5 +1,5 @@
 -- Gen and Bind in any name space. A further space is a line in the first lemmas.
-use Rattle.std.proofs.Common.{◌≡◌, ◌≢◌, ◌⊎◌, inl, inr, ℕ, ◌==◌, Bool, true, false, if◌then◌else◌, List, [], ◌∷◌, ◌++◌, Option, None, Some, IsSome, refl, sym, ap, ◌∙◌, subst}
+use Rattle.std.proofs.Common.{◌≡◌, ◌≢◌, inl, inr, ℕ, ◌==◌, Bool, true, false, if◌then◌else◌, List, [], ◌∷◌, ◌++◌, Option, None, Some, IsSome, refl, sym, ap, ◌∙◌, subst}
 use Rattle.std.specs.FinMap as map
 use Rattle.std.proofs.lemmas.Bool.Decides.{eqb_tells}
 use Rattle.gl_base.proofs.Found.{get-insert_here}
@@ -8,10 +8,10 @@ use Rattle.gl_plain.specs.declared.driver_calls.Answer.{Answer}
 use Rattle.gl_plain.specs.declared.driver_calls.Answer.TheVariants.{Name}
 use Rattle.gl_plain.specs.declared.driver_calls.DriverCall.{DriverCall}
 use Rattle.gl_plain.specs.declared.driver_calls.DriverEntry.{DriverEntry}
-use Rattle.gl_plain.specs.subjects.Names.{Names, new_name, IsLive, IsFresh}
+use Rattle.gl_plain.specs.subjects.Names.{new_name, IsFresh}
 use Rattle.gl_plain.specs.Oracle.{Oracle, first, behind, led_by}
 use Rattle.gl_plain.specs.State.{EsState, DriverTables, DriverState}
-use Rattle.gl_plain.specs.Spaces.{Space, Buffers, names_in, with_name, numbers_in, with_numbers, gen_call, given_in, with_given}
+use Rattle.gl_plain.specs.Spaces.{Space, Buffers, Textures, names_in, with_name, numbers_in, with_numbers, gen_call, given_in, with_given}
 use Rattle.gl_plain.specs.Outcome.{Outcome, leaves}
 use Rattle.gl_plain.specs.driver.Allowed.{IsAllowed}
 use Rattle.gl_plain.specs.driver.Answers.{told, told_call, told_number}
@@ -24,51 +24,51 @@ use Rattle.gl_plain.specs.object.Step.{bind_outcome}
 use Rattle.gl_plain.specs.object.Calls.{bind_calls}
 use Rattle.gl_plain.proofs.BuffersAgree.{agree_named}
 use Rattle.gl_laws.proofs.OwnLaws.{StepLeft}
+use Rattle.gl_laws.proofs.Tables.{with_new_buffer, with_new_texture}
+use Rattle.gl_laws.proofs.TexturesAgree.{agree_texture_named}
 use Rattle.gl_laws.proofs.Lists.{entry, one_entry, two_entries, front_of_one, first_entry, head_is, tail_is}
-
--- the live names of a space
-abbrev pub live_in : Space → DriverTables → Names
-live_in Buffers t = t.buffers.names
 
 -- a new name
 pub agree_gen : (space : Space) (s : EsState) (t : DriverTables) → TablesAgree s t → (id n : ℕ) → map.get (names_in space s) id ≡ None → id ≢ 0 → IsFresh (given_in space t.given) n → TablesAgree (with_name space id n s) (with_given space n t)
-agree_gen Buffers s t a id n free positive fresh = record { surface = a.surface; buffers = agree_named s.buffers t.buffers t.given.buffers a.buffers id n free positive fresh; attribs = a.attribs; programs = a.programs; raster = a.raster }
+agree_gen Buffers s t a id n free positive fresh = with_new_buffer s t _ _ n a (agree_named s.buffers t.buffers t.given.buffers a.buffers id n free positive fresh)
+agree_gen Textures s t a id n free positive fresh = with_new_texture s t _ _ n a (agree_texture_named s.textures t.textures t.given.textures a.textures id n free positive fresh)
 
 -- it is in use
 pub known_name : (space : Space) (s : EsState) (id n : ℕ) → map.get (names_in space (with_name space id n s)) id ≡ Some (new_name n)
 known_name Buffers s id n = get-insert_here s.buffers.names id (new_name n)
-
--- and live
-live_name : (space : Space) (t : DriverTables) (n : ℕ) → map.get (live_in space (with_given space n t)) n ≡ Some (new_name n)
-live_name Buffers t n = get-insert_here t.buffers.names n (new_name n)
-
--- a name in use is that of a live one
-live_of : (space : Space) (s : EsState) (t : DriverTables) → TablesAgree s t → (id : ℕ) (x : names.Name) → map.get (names_in space s) id ≡ Some x → map.get (live_in space t) x.number ≡ Some x
-live_of Buffers s t a id x there = a.buffers.names.live id x there
+known_name Textures s id n = get-insert_here s.textures.names id (new_name n)
 
 pub gen_told : (space : Space) (answer : Answer) (o : Oracle) → told_call (gen_call space) answer o ≡ told_number space answer o
 gen_told Buffers answer o = refl
+gen_told Textures answer o = refl
 
 gen_allowed : (space : Space) (d : DriverState) → IsAllowed d (gen_call space)
 gen_allowed Buffers d = tt
+gen_allowed Textures d = tt
 
 -- an answer to a Gen is a new name
-gen_answered : (space : Space) (d : DriverState) (P : Answer → Type 0) → ((n : ℕ) → IsFresh (given_in space d.tables.given) n → P (Name n)) → (answer : Answer) (es : List DriverEntry) → IsLegal d (entry (gen_call space) answer ∷ es) → P answer
+pub gen_answered : (space : Space) (d : DriverState) (P : Answer → Type 0) → ((n : ℕ) → IsFresh (given_in space d.tables.given) n → P (Name n)) → (answer : Answer) (es : List DriverEntry) → IsLegal d (entry (gen_call space) answer ∷ es) → P answer
 gen_answered Buffers d P f (Name n) es l = f n l.0.answered
 gen_answered Buffers d P f answer es l = absurd l.0.answered
+gen_answered Textures d P f (Name n) es l = f n l.0.answered
+gen_answered Textures d P f answer es l = absurd l.0.answered
 
 gen_after : (space : Space) (d : DriverState) (n : ℕ) → driver_after d (gen_call space) (Name n) ≡ record { tables = with_given space n d.tables; contents = d.contents }
 gen_after Buffers d n = refl
+gen_after Textures d n = refl
 
 gen_records : (space : Space) (d : DriverState) (answer : Answer) → call_records d (gen_call space) answer ≡ []
 gen_records Buffers d answer = refl
+gen_records Textures d answer = refl
 
 -- the numbers behind one that was told
 pub numbers_behind : (space : Space) (n : ℕ) (o : Oracle) → with_numbers space (behind (numbers_in space (with_numbers space (led_by n (numbers_in space o)) o))) (with_numbers space (led_by n (numbers_in space o)) o) ≡ o
 numbers_behind Buffers n o = refl
+numbers_behind Textures n o = refl
 
 pub first_number : (space : Space) (n : ℕ) (o : Oracle) → first (numbers_in space (with_numbers space (led_by n (numbers_in space o)) o)) ≡ n
 first_number Buffers n o = refl
+first_number Textures n o = refl
 
 pub some_is : (o : Option names.Name) (x : names.Name) → o ≡ Some x → IsSome o
 some_is o x e = subst (λ (y : Option names.Name). IsSome y) (sym e) refl
@@ -79,41 +79,47 @@ not_zero n h e = let q : (0 == 0) ≡ false = subst (λ (k : ℕ). (k == 0) ≡ 
 pub is_zero : (n : ℕ) → (n == 0) ≡ true → n ≡ 0
 is_zero n h = elim (eqb_tells n 0) [ inl p ↦ p.1 | inr p ↦ let f : (n == 0) ≡ false = p.0 in absurd (cc) ]
 
--- What is so of the call that binds a name of a space, and of what it does to the service's tables.
-pub record IsBind (space : Space) (call : ℕ → DriverCall) (bind : EsState → EsState) (id : ℕ) : Type 0 where
+-- What is so of the call that binds a name of a space, and of what it does to the service's tables. The test says where a bind is refused for
+-- what the name stands for.
+pub record IsBind (space : Space) (call : ℕ → DriverCall) (bind : EsState → EsState) (id : ℕ) (is_refused : EsState → names.Name → Bool) : Type 0 where
   pub asks_nothing : (name : ℕ) (answer : Answer) (o : Oracle) → told_call (call name) answer o ≡ o
   pub same_contents : (d : DriverState) (name : ℕ) (answer : Answer) → contents_after_call d (call name) answer ≡ d.contents
   pub no_records : (d : DriverState) (name : ℕ) (answer : Answer) → call_records d (call name) answer ≡ []
-  pub allowed : (d : DriverState) (name : ℕ) → (name ≡ 0) ⊎ IsLive (live_in space d.tables) name → IsAllowed d (call name)
-  pub known : (s : EsState) (t : DriverTables) (x : names.Name) (answer : Answer) → TablesAgree s t → map.get (names_in space s) id ≡ Some x → TablesAgree (bind s) (tables_after t (call x.number) answer)
+  -- a name that was just given stands for nothing
+  pub new_is_fair : (s : EsState) (n : ℕ) → is_refused s (new_name n) ≡ false
+  pub zero_allowed : (s : EsState) (d : DriverState) → TablesAgree s d.tables → IsAllowed d (call 0)
+  pub known_allowed : (s : EsState) (d : DriverState) (x : names.Name) → TablesAgree s d.tables → map.get (names_in space s) id ≡ Some x → is_refused s x ≡ false → IsAllowed d (call x.number)
+  pub known : (s : EsState) (t : DriverTables) (x : names.Name) (answer : Answer) → TablesAgree s t → map.get (names_in space s) id ≡ Some x → is_refused s x ≡ false → TablesAgree (bind s) (tables_after t (call x.number) answer)
   pub none : (s : EsState) (t : DriverTables) (answer : Answer) → TablesAgree s t → id ≡ 0 → TablesAgree (bind s) (tables_after t (call 0) answer)
 
-module _ (space : Space) (call : ℕ → DriverCall) (bind : EsState → EsState) (id : ℕ) (is : IsBind space call bind id) (s : EsState) (d : DriverState) (a : TablesAgree s d.tables) where
-  may_unknown : (b : Bool) (o : Oracle) (es : List DriverEntry) (next : DriverCall) (more : List DriverCall) → IsLegal d es
+module _ (space : Space) (call : ℕ → DriverCall) (bind : EsState → EsState) (id : ℕ) (is_refused : EsState → names.Name → Bool) (is : IsBind space call bind id is_refused) (s : EsState) (d : DriverState) (a : TablesAgree s d.tables)
+    (fair : (x : names.Name) → map.get (names_in space s) id ≡ Some x → is_refused s x ≡ false) where
+  may_unknown : map.get (names_in space s) id ≡ None → (b : Bool) → (id == 0) ≡ b → (o : Oracle) (es : List DriverEntry) (next : DriverCall) (more : List DriverCall) → IsLegal d es
       → calls_in es ++ next ∷ more ≡ (if b then call 0 ∷ [] else gen_call space ∷ call (first (numbers_in space (told es o))) ∷ []) → IsAllowed (state_after d es) next
-  may_unknown true o es next more l h = front_of_one (λ (gs : List DriverEntry) (x : DriverCall). IsAllowed (state_after d gs) x) (call 0) (is.allowed d 0 (inl refl)) es next more h
-  may_unknown false o [] next more l h = subst (IsAllowed d) (sym (head_is next (gen_call space) more (call (first (numbers_in space o)) ∷ []) h)) (gen_allowed space d)
-  may_unknown false o (e ∷ es) next more l h =
+  may_unknown free true z o es next more l h = front_of_one (λ (gs : List DriverEntry) (x : DriverCall). IsAllowed (state_after d gs) x) (call 0) (is.zero_allowed s d a) es next more h
+  may_unknown free false z o [] next more l h = subst (IsAllowed d) (sym (head_is next (gen_call space) more (call (first (numbers_in space o)) ∷ []) h)) (gen_allowed space d)
+  may_unknown free false z o (e ∷ es) next more l h =
       first_entry (λ (gs : List DriverEntry). IsLegal d gs → calls_in gs ++ next ∷ more ≡ gen_call space ∷ call (first (numbers_in space (told gs o))) ∷ [] → IsAllowed (state_after d gs) next) (gen_call space) e es
       (head_is e.call (gen_call space) (calls_in es ++ next ∷ more) (call (first (numbers_in space (told (e ∷ es) o))) ∷ []) h)
       (λ k g. gen_answered space d
       (λ (x : Answer). gen_call space ∷ (calls_in es ++ next ∷ more) ≡ gen_call space ∷ call (first (numbers_in space (told (entry (gen_call space) x ∷ es) o))) ∷ [] → IsAllowed (state_after (driver_after d (gen_call space) x) es) next)
-      (λ n fresh g. second n (tail_is (gen_call space) (gen_call space) (calls_in es ++ next ∷ more) (call (first (numbers_in space (told (entry (gen_call space) (Name n) ∷ es) o))) ∷ []) g)) e.answer es k g)
+      (λ n fresh g. second n fresh (tail_is (gen_call space) (gen_call space) (calls_in es ++ next ∷ more) (call (first (numbers_in space (told (entry (gen_call space) (Name n) ∷ es) o))) ∷ []) g)) e.answer es k g)
       l h
     where
-      second : (n : ℕ) → calls_in es ++ next ∷ more ≡ call (first (numbers_in space (told_call (gen_call space) (Name n) (told es o)))) ∷ [] → IsAllowed (state_after (driver_after d (gen_call space) (Name n)) es) next
-      second n g =
+      second : (n : ℕ) → IsFresh (given_in space d.tables.given) n → calls_in es ++ next ∷ more ≡ call (first (numbers_in space (told_call (gen_call space) (Name n) (told es o)))) ∷ [] → IsAllowed (state_after (driver_after d (gen_call space) (Name n)) es) next
+      second n fresh g =
           let number : first (numbers_in space (told_call (gen_call space) (Name n) (told es o))) ≡ n = ap (λ (q : Oracle). first (numbers_in space q)) (gen_told space (Name n) (told es o)) ∙ first_number space n (told es o) in
+          let middle : DriverState = record { tables = with_given space n d.tables; contents = d.contents } in
           front_of_one (λ (gs : List DriverEntry) (x : DriverCall). IsAllowed (state_after (driver_after d (gen_call space) (Name n)) gs) x) (call n)
-          (is.allowed (driver_after d (gen_call space) (Name n)) n (inr (some_is (map.get (live_in space (driver_after d (gen_call space) (Name n)).tables) n) (new_name n)
-          (ap (λ (z : DriverState). map.get (live_in space z.tables) n) (gen_after space d n) ∙ live_name space d.tables n))))
+          (subst (λ (q : DriverState). IsAllowed q (call n)) (sym (gen_after space d n))
+          (is.known_allowed (with_name space id n s) middle (new_name n) (agree_gen space s d.tables a id n free (not_zero id z) fresh) (known_name space s id n) (is.new_is_fair (with_name space id n s) n)))
           es next more (g ∙ ap (λ (k : ℕ). call k ∷ []) number)
 
   may_by : (found : Option names.Name) → map.get (names_in space s) id ≡ found → (o : Oracle) (es : List DriverEntry) (next : DriverCall) (more : List DriverCall) → IsLegal d es
       → calls_in es ++ next ∷ more ≡ bind_calls space call id (told es o) found → IsAllowed (state_after d es) next
   may_by (Some x) e o es next more l h = front_of_one (λ (gs : List DriverEntry) (y : DriverCall). IsAllowed (state_after d gs) y) (call x.number)
-      (is.allowed d x.number (inr (some_is (map.get (live_in space d.tables) x.number) x (live_of space s d.tables a id x e)))) es next more h
-  may_by None e o es next more l h = may_unknown (id == 0) o es next more l h
+      (is.known_allowed s d x a e (fair x e)) es next more h
+  may_by None e o es next more l h = may_unknown e (id == 0) refl o es next more l h
 
   -- each driver call of a bind may be made
   pub bind_may : (o : Oracle) (es : List DriverEntry) (next : DriverCall) (more : List DriverCall) → IsLegal d es → calls_in es ++ next ∷ more ≡ bind_calls space call id (told es o) (map.get (names_in space s) id) → IsAllowed (state_after d es) next
@@ -137,7 +143,7 @@ module _ (space : Space) (call : ℕ → DriverCall) (bind : EsState → EsState
         asked = ap (λ (q : Oracle). with_numbers space (behind (numbers_in space q)) q) told_is ∙ numbers_behind space n o;
         agrees = subst (λ (k : ℕ). TablesAgree (bind (with_name space id k s)) (state_after d (entry (gen_call space) (Name n) ∷ entry (call k) b ∷ [])).tables) (sym number)
             (subst (λ (z : DriverState). TablesAgree (bind (with_name space id n s)) (tables_after z.tables (call n) b)) (sym (gen_after space d n))
-            (is.known (with_name space id n s) middle.tables (new_name n) b (agree_gen space s d.tables a id n free positive fresh) (known_name space s id n)));
+            (is.known (with_name space id n s) middle.tables (new_name n) b (agree_gen space s d.tables a id n free positive fresh) (known_name space s id n) (is.new_is_fair (with_name space id n s) n)));
         contents = is.same_contents (driver_after d (gen_call space) (Name n)) (first (numbers_in space t)) b ∙ ap (λ (z : DriverState). z.contents) (gen_after space d n);
         records = (λ i. gen_records space d (Name n) i ++ (is.no_records (driver_after d (gen_call space) (Name n)) (first (numbers_in space t)) b i ++ []));
       }
@@ -161,7 +167,7 @@ module _ (space : Space) (call : ℕ → DriverCall) (bind : EsState → EsState
 
   left_by : (found : Option names.Name) → map.get (names_in space s) id ≡ found → (o : Oracle) (es : List DriverEntry) → IsLegal d es → calls_in es ≡ bind_calls space call id (told es o) found → StepLeft d (bind_outcome space bind s id (told es o) found) o es
   left_by (Some x) e o es l h = one_entry (λ (gs : List DriverEntry). StepLeft d (bind_outcome space bind s id (told gs o) (Some x)) o gs) (call x.number)
-      (λ answer. left_one x.number answer o (is.known s d.tables x answer a e)) es h
+      (λ answer. left_one x.number answer o (is.known s d.tables x answer a e (fair x e))) es h
   left_by None e o es l h = left_unknown e (id == 0) refl o es l h
 
   -- what the driver calls of a bind leave

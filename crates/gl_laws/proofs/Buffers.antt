@@ -1,5 +1,5 @@
 -- The own laws of the commands on buffers.
-use Rattle.std.proofs.Common.{◌≡◌, ◌≢◌, ◌≤◌, ℕ, ℤ, ◌==◌, true, false, not, ◌||◌, ◌&&◌, if◌then◌else◌, List, [], ◌∷◌, ◌++◌, length, Option, None, Some, IsSome, IsTrue, is_some, refl, sym, ap, subst, arith}
+use Rattle.std.proofs.Common.{◌≡◌, ◌≢◌, ◌≤◌, inl, inr, ℕ, ℤ, ◌==◌, Bool, true, false, not, ◌||◌, ◌&&◌, if◌then◌else◌, List, [], ◌∷◌, ◌++◌, length, Option, None, Some, IsSome, IsTrue, is_some, refl, sym, ap, subst, arith}
 use Rattle.std.specs.FinMap as map
 use Rattle.std.proofs.lemmas.List.{length-replicate}
 use Rattle.gl_base.specs.declared.gl_enum.GlEnum.{GlEnum}
@@ -18,10 +18,10 @@ use Rattle.gl_plain.specs.declared.driver_calls.DriverEntry.{DriverEntry}
 use Rattle.gl_plain.specs.declared.driver_calls.ObjectDriver.TheVariants as calls
 use Rattle.gl_plain.specs.Words.{natural, is_negative}
 use Rattle.gl_plain.specs.subjects.Data.{IsData, has_needed_data, has_just_needed_data, data_needed, payload_of, bytes_of}
-use Rattle.gl_plain.specs.subjects.Buffers.{BufferTables, is_buffer_target, is_usage, bound, gen_buffers_is_bad, bind_buffer_refusal, bind_buffer_effect, buffer_data_is_bad, buffer_data_refusal, buffer_sub_data_is_bad, buffer_sub_data_refusal, range_refusal, HasRange, delete_buffers_calls, BuffersAgree}
+use Rattle.gl_plain.specs.subjects.Buffers.{BufferTables, is_buffer_target, is_usage, bound, gen_buffers_is_bad, bind_buffer_refusal, bind_buffer_effect, buffer_data_is_bad, buffer_data_refusal, buffer_sub_data_is_bad, buffer_sub_data_refusal, range_refusal, HasRange, delete_buffers_calls, delete_buffers_effect, without_buffer, BuffersAgree}
 use Rattle.gl_plain.specs.subjects.Attributes.{all_outside}
 use Rattle.gl_plain.specs.Oracle.{Oracle}
-use Rattle.gl_plain.specs.State.{EsState, DriverTables, DriverState}
+use Rattle.gl_plain.specs.State.{EsState, DriverState}
 use Rattle.gl_plain.specs.Spaces.{Buffers}
 use Rattle.gl_plain.specs.driver.Allowed.{IsAllowed}
 use Rattle.gl_plain.specs.driver.Answers.{told}
@@ -30,17 +30,14 @@ use Rattle.gl_plain.specs.Parts.{calls_in}
 use Rattle.gl_plain.specs.Agreement.{TablesAgree}
 use Rattle.gl_plain.specs.Outcome.{leaves}
 use Rattle.gl_plain.specs.declared.attributes.VertexAttributes.{VertexAttributes}
-use Rattle.gl_plain.specs.object.Step.{bind_outcome, object_step, buffer_deleted_by}
+use Rattle.gl_plain.specs.object.Step.{object_step, buffer_deleted_by}
 use Rattle.gl_plain.specs.object.Calls.{bind_buffer_call}
 use Rattle.gl_plain.proofs.BuffersAgree.{agree_bind, agree_unbind, same_bound, agree_stored, agree_changed, agree_deleted}
 use Rattle.gl_laws.proofs.Lists.{entry, no_entry, one_entry, front_of_one, not_nil}
 use Rattle.gl_laws.proofs.OwnLaws.{StepLeft, OwnMayGoOn, OwnLeaves}
 use Rattle.gl_laws.proofs.Refusals.{or_false, not_false, none_of, none_refused}
+use Rattle.gl_laws.proofs.Tables.{with_buffers, with_attributes, with_errors}
 use Rattle.gl_laws.proofs.Binds.{IsBind, agree_gen, some_is, bind_may, bind_leaves}
-
--- the tables with other buffers
-with_buffers : (s : EsState) (t : DriverTables) (b c : BufferTables) → TablesAgree s t → BuffersAgree b c t.given.buffers → TablesAgree (record s { buffers = b }) (record t { buffers = c })
-with_buffers s t b c a agree = record { surface = a.surface; buffers = agree; attribs = a.attribs; programs = a.programs; raster = a.raster }
 
 -- GenBuffers
 module _ (s : EsState) (d : DriverState) (a : TablesAgree s d.tables) (id : ℕ) (payload : List ℕ) (fair : gen_buffers_is_bad s.buffers.names id ≡ false) where
@@ -61,28 +58,32 @@ module _ (s : EsState) (d : DriverState) (a : TablesAgree s d.tables) (id : ℕ)
   gen_leaves o es l h = one_entry (λ (gs : List DriverEntry). IsLegal d gs → StepLeft d (object_step s (GenBuffers id) payload (told gs o)) o gs) (Object calls.GenBuffer) (gen_by o) es h l
 
 -- BindBuffer
-buffer_bind : (target : GlEnum) (id : ℕ) → is_buffer_target target ≡ true → IsBind Buffers (bind_buffer_call target) (λ (s : EsState). record s { buffers = bind_buffer_effect s.buffers target id }) id
+
+-- no name is refused for what it stands for
+abbrev no_refusal : EsState → names.Name → Bool
+no_refusal s x = false
+
+buffer_bind : (target : GlEnum) (id : ℕ) → is_buffer_target target ≡ true → IsBind Buffers (bind_buffer_call target) (λ (s : EsState). record s { buffers = bind_buffer_effect s.buffers target id }) id no_refusal
 buffer_bind target id is = record {
   asks_nothing = λ name answer o. refl;
   same_contents = λ d name answer. refl;
   no_records = λ d name answer. refl;
-  allowed = λ d name there. (is, there);
-  known = λ s t x answer a there. with_buffers s t _ _ a (agree_bind s.buffers t.buffers t.given.buffers a.buffers target id x there);
+  new_is_fair = λ s n. refl;
+  zero_allowed = λ s d a. (is, inl refl);
+  known_allowed = λ s d x a there fair. (is, inr (some_is (map.get d.tables.buffers.names x.number) x (a.buffers.names.live id x there)));
+  known = λ s t x answer a there fair. with_buffers s t _ _ a (agree_bind s.buffers t.buffers t.given.buffers a.buffers target id x there);
   none = λ s t answer a zero. with_buffers s t _ _ a (subst (λ (k : ℕ). BuffersAgree (bind_buffer_effect s.buffers target k) (bind_buffer_effect t.buffers target 0) t.given.buffers) (sym zero) (agree_unbind s.buffers t.buffers t.given.buffers a.buffers target));
 }
 
 module _ (s : EsState) (d : DriverState) (a : TablesAgree s d.tables) (target : GlEnum) (id : ℕ) (payload : List ℕ) (allowed : bind_buffer_refusal s.buffers target id ≡ None) where
-  buffer_bind_here : IsBind Buffers (bind_buffer_call target) (λ (s : EsState). record s { buffers = bind_buffer_effect s.buffers target id }) id
+  buffer_bind_here : IsBind Buffers (bind_buffer_call target) (λ (s : EsState). record s { buffers = bind_buffer_effect s.buffers target id }) id no_refusal
   buffer_bind_here = buffer_bind target id (not_false (is_buffer_target target) (none_refused (not (is_buffer_target target)) _ _ _ allowed).0)
 
   pub bind_buffer_may : OwnMayGoOn s d (BindBuffer target id) payload
-  bind_buffer_may o es next more l h = bind_may Buffers (bind_buffer_call target) (λ (s : EsState). record s { buffers = bind_buffer_effect s.buffers target id }) id buffer_bind_here s d a o es next more l h
-
-  same_reply : (o : Oracle) → object_step s (BindBuffer target id) payload o ≡ bind_outcome Buffers (λ (s : EsState). record s { buffers = bind_buffer_effect s.buffers target id }) s id o (map.get s.buffers.names id)
-  same_reply o = refl
+  bind_buffer_may o es next more l h = bind_may Buffers (bind_buffer_call target) (λ (s : EsState). record s { buffers = bind_buffer_effect s.buffers target id }) id no_refusal buffer_bind_here s d a (λ x there. refl) o es next more l h
 
   pub bind_buffer_leaves : OwnLeaves s d (BindBuffer target id) payload
-  bind_buffer_leaves o es l h = bind_leaves Buffers (bind_buffer_call target) (λ (s : EsState). record s { buffers = bind_buffer_effect s.buffers target id }) id buffer_bind_here s d a o es l h
+  bind_buffer_leaves o es l h = bind_leaves Buffers (bind_buffer_call target) (λ (s : EsState). record s { buffers = bind_buffer_effect s.buffers target id }) id no_refusal buffer_bind_here s d a (λ x there. refl) o es l h
 
 -- BufferData
 
@@ -131,7 +132,7 @@ module _ (s : EsState) (d : DriverState) (a : TablesAgree s d.tables) (target : 
     contents = refl;
     records = refl;
   }
-  data_by o Oom l = record { asked = refl; agrees = record { surface = a.surface; buffers = a.buffers; attribs = a.attribs; programs = a.programs; raster = a.raster }; contents = refl; records = refl }
+  data_by o Oom l = record { asked = refl; agrees = with_errors s d.tables _ a; contents = refl; records = refl }
   data_by o answer l = absurd l.0.answered
 
   pub buffer_data_leaves : OwnLeaves s d (BufferData target size usage words) payload
@@ -191,13 +192,8 @@ module _ (s : EsState) (d : DriverState) (a : TablesAgree s d.tables) (id : ℕ)
   delete_by (Some x) e o es h = one_entry (λ (gs : List DriverEntry). StepLeft d (leaves (buffer_deleted_by s id (Some x)) (told gs o)) o gs) (Object (calls.DeleteBuffer x.number))
       (λ answer. record {
         asked = refl;
-        agrees = record {
-          surface = a.surface;
-          buffers = agree_deleted s.buffers d.tables.buffers d.tables.given.buffers a.buffers id x e;
-          attribs = ap (λ (t : VertexAttributes). all_outside t x.number) a.attribs;
-          programs = a.programs;
-          raster = a.raster;
-        };
+        agrees = with_attributes (record s { buffers = without_buffer s.buffers id x.number }) (record d.tables { buffers = delete_buffers_effect d.tables.buffers x.number }) _ _
+            (with_buffers s d.tables _ _ a (agree_deleted s.buffers d.tables.buffers d.tables.given.buffers a.buffers id x e)) (ap (λ (t : VertexAttributes). all_outside t x.number) a.attribs);
         contents = refl;
         records = refl;
       }) es h

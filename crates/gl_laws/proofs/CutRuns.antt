@@ -1,11 +1,11 @@
 -- A journal that is one part for each of some commands, and a front of the next one's, has the first of the records of those commands.
 use Prim.Native.Nat.{zero, suc}
-use Rattle.std.proofs.Common.{◌≡◌, ℕ, Bool, true, false, if◌then◌else◌, List, [], ◌∷◌, ◌++◌, take, Option, None, Some, refl, sym, ap, ◌∙◌, subst}
+use Rattle.std.proofs.Common.{◌≡◌, ℕ, Bool, true, false, List, [], ◌∷◌, ◌++◌, take, Option, None, Some, refl, sym, ap, ◌∙◌, subst}
 use Rattle.gl_plain.specs.declared.commands.Command.{Command}
 use Rattle.gl_plain.specs.declared.commands.Fetched.{Fetched}
 use Rattle.gl_plain.specs.declared.driver_calls.DriverCall.{DriverCall}
 use Rattle.gl_plain.specs.declared.driver_calls.DriverEntry.{DriverEntry}
-use Rattle.gl_plain.specs.subjects.Images.{Contents, read_contents}
+use Rattle.gl_plain.specs.subjects.Images.{read_contents}
 use Rattle.gl_plain.specs.subjects.Buckets.{breaks_bucket_rule}
 use Rattle.gl_plain.specs.Oracle.{Oracle}
 use Rattle.gl_plain.specs.State.{WireState, DriverState}

@@ -1,10 +1,12 @@
 -- What the first of a command's driver calls record is the first of what the command records: nothing, where it is not drawn or cleared yet.
-use Rattle.std.proofs.Common.{◌≡◌, ℕ, ◌==◌, Bool, true, false, if◌then◌else◌, List, [], ◌∷◌, ◌++◌, Option, None, Some, Result, Ok, Err, refl, sym, ap, ◌∙◌, subst}
+use Rattle.std.proofs.Common.{◌≡◌, inl, inr, ℕ, ◌==◌, Bool, true, false, if◌then◌else◌, List, [], ◌∷◌, ◌++◌, Option, None, Some, Result, Ok, Err, refl, sym, ap, ◌∙◌, subst}
 use Rattle.std.specs.FinMap as map
 use Rattle.gl_plain.specs.declared.commands.Command.{Command}
-use Rattle.gl_plain.specs.declared.commands.Command.TheVariants.{Noop, SetToken, Bucket, Object, Draw, Query}
+use Rattle.gl_plain.specs.declared.commands.Command.TheVariants.{Noop, SetToken, Bucket, Object, Image, Draw, Query}
 use Rattle.gl_plain.specs.declared.commands.DrawCommand.{DrawCommand}
-use Rattle.gl_plain.specs.declared.commands.DrawCommand.TheVariants.{Raster, Clear, DrawArrays, DrawElements, Flush, Finish}
+use Rattle.gl_plain.specs.declared.commands.DrawCommand.TheVariants.{ActiveTexture, Raster, Clear, DrawArrays, DrawElements, Flush, Finish}
+use Rattle.gl_plain.specs.declared.commands.ImageCommand.{ImageCommand}
+use Rattle.gl_plain.specs.declared.commands.ImageCommand.TheVariants as images
 use Rattle.gl_plain.specs.declared.commands.ObjectCommand.{ObjectCommand}
 use Rattle.gl_plain.specs.declared.commands.ObjectCommand.TheVariants as objects
 use Rattle.gl_plain.specs.declared.draws.DrawPlan.{DrawPlan}
@@ -15,23 +17,28 @@ use Rattle.gl_plain.specs.declared.driver_calls.DriverEntry.{DriverEntry}
 use Rattle.gl_plain.specs.declared.errors.GlError.{GlError}
 use Rattle.gl_plain.specs.declared.objects.Name.{Name}
 use Rattle.gl_plain.specs.declared.programs.Program.{Program}
-use Rattle.gl_plain.specs.subjects.Images.{read_contents}
+use Rattle.gl_plain.specs.subjects.Images.{Contents, read_contents}
 use Rattle.gl_plain.specs.subjects.Programs.{ProgramTables, number_of, program_at}
 use Rattle.gl_plain.specs.subjects.Raster.{is_driver_raster}
 use Rattle.gl_plain.specs.subjects.Uniforms.{is_nowhere}
 use Rattle.gl_plain.specs.subjects.Draws.{Sources, check_arrays, check_indexed}
-use Rattle.gl_plain.specs.Oracle.{Oracle, default_answers}
+use Rattle.gl_plain.specs.Oracle.{Oracle, default_answers, first}
 use Rattle.gl_plain.specs.State.{EsState, WireState, DriverState, sources_of}
-use Rattle.gl_plain.specs.Spaces.{Buffers, gen_call}
-use Rattle.gl_plain.specs.Wire.{calls_by, command_calls, command_refusal, own_calls}
-use Rattle.gl_plain.specs.Journal.{records_in, entry_after}
+use Rattle.gl_plain.specs.Spaces.{Space, Buffers, Textures, gen_call, numbers_in}
+use Rattle.gl_plain.specs.Wire.{calls_by, command_calls, command_refusal, own_calls, whole_first, zeroed}
+use Rattle.gl_plain.specs.Journal.{records_in, entry_after, state_after}
 use Rattle.gl_plain.specs.Parts.{calls_in}
-use Rattle.gl_plain.specs.Records.{Record, call_records, draw_records, records_by, step_records}
+use Rattle.gl_plain.specs.Records.{Record, call_records, draw_records, own_records, records_by, step_records}
 use Rattle.gl_plain.specs.Agreement.{Agrees}
 use Rattle.gl_plain.specs.draw.Calls.{drawing_calls, own_draw_calls}
-use Rattle.gl_plain.specs.object.Calls.{bind_buffer_call, bind_calls, delete_object_calls, link_program_calls, validate_program_calls, own_object_calls}
+use Rattle.gl_plain.specs.object.Calls.{bind_buffer_call, bind_calls, bind_texture_call, link_program_calls, validate_program_calls, own_object_calls}
+use Rattle.gl_plain.specs.image.Calls.{own_image_calls}
 use Rattle.gl_plain.specs.subjects.Buffers.{delete_buffers_calls}
+use Rattle.gl_plain.specs.subjects.Textures.{delete_textures_calls}
+use Rattle.gl_laws.proofs.Lists.{records-append}
+use Rattle.gl_laws.proofs.Zeroing.{front_of_two, zeroings_record_nothing}
 use Rattle.gl_laws.proofs.Draws.{draw_leaves}
+use Rattle.gl_laws.proofs.Commands.{Behind, behind_zeroings, zeroed_left, zeroings_of}
 
 -- these records are the first of all
 abbrev pub AreFirst : List Record → List Record → Type 0
@@ -49,6 +56,7 @@ nothing_first d (e ∷ es) more all h = absurd (cc)
 
 abbrev IsSilent : DriverCall → Type 0
 IsSilent (driver.Object call) = Unit {0}
+IsSilent (driver.Image call) = Unit {0}
 IsSilent (driver.Program call) = Unit {0}
 IsSilent (driver.Draw call) = ⊥
 
@@ -58,6 +66,7 @@ AreSilent (c ∷ cs) = IsSilent c × AreSilent cs
 
 no_record : (d : DriverState) (c : DriverCall) (answer : Answer) → IsSilent c → call_records d c answer ≡ []
 no_record d (driver.Object call) answer h = refl
+no_record d (driver.Image call) answer h = refl
 no_record d (driver.Program call) answer h = refl
 no_record d (driver.Draw call) answer h = absurd h
 
@@ -66,11 +75,15 @@ silent_first : (d : DriverState) (es : List DriverEntry) (more : List DriverCall
 silent_first d [] more h = refl
 silent_first d (e ∷ es) more h = λ i. no_record d e.call e.answer h.0 i ++ silent_first (entry_after d e) es more h.1 i
 
-silent_bind : (bind : ℕ → DriverCall) → ((n : ℕ) → IsSilent (bind n)) → (id : ℕ) (o : Oracle) (x : Option Name) → AreSilent (bind_calls Buffers bind id o x)
-silent_bind bind silent id o (Some x) = (silent x.number, tt)
-silent_bind bind silent id o None = elim (id == 0) as (λ b. AreSilent (if b then bind 0 ∷ [] else gen_call Buffers ∷ bind (o.buffers 0) ∷ [])) [
+silent_gen : (space : Space) → IsSilent (gen_call space)
+silent_gen Buffers = tt
+silent_gen Textures = tt
+
+silent_bind : (space : Space) (bind : ℕ → DriverCall) → ((n : ℕ) → IsSilent (bind n)) → (id : ℕ) (o : Oracle) (x : Option Name) → AreSilent (bind_calls space bind id o x)
+silent_bind space bind silent id o (Some x) = (silent x.number, tt)
+silent_bind space bind silent id o None = elim (id == 0) as (λ b. AreSilent (if b then bind 0 ∷ [] else gen_call space ∷ bind (first (numbers_in space o)) ∷ [])) [
   | true ↦ (silent 0, tt)
-  | false ↦ (tt, (silent (o.buffers 0), tt))
+  | false ↦ (silent_gen space, (silent (first (numbers_in space o)), tt))
 ]
 
 silent_if : (b : Bool) (c : DriverCall) → IsSilent c → AreSilent (if b then c ∷ [] else [])
@@ -85,6 +98,10 @@ silent_delete : (x : Option Name) → AreSilent (delete_buffers_calls x)
 silent_delete None = tt
 silent_delete (Some x) = (tt, tt)
 
+silent_delete_textures : (x : Option Name) → AreSilent (delete_textures_calls x)
+silent_delete_textures None = tt
+silent_delete_textures (Some x) = (tt, tt)
+
 silent_link : (t : ProgramTables) (number : ℕ) (p : Option Program) → AreSilent (link_program_calls t number p)
 silent_link t number None = tt
 silent_link t number (Some p) = silent_if _ _ tt
@@ -95,14 +112,22 @@ silent_validate number (Some p) = silent_if _ _ tt
 
 -- the calls of the commands on objects, shaders and programs
 objects_silent : (s : EsState) (c : ObjectCommand) (payload : List ℕ) (o : Oracle) → AreSilent (own_object_calls s c payload o)
-objects_silent s (objects.BindBuffer target id) payload o = silent_bind (bind_buffer_call target) (λ n. tt) id o (map.get s.buffers.names id)
+objects_silent s (objects.BindBuffer target id) payload o = silent_bind Buffers (bind_buffer_call target) (λ n. tt) id o (map.get s.buffers.names id)
 objects_silent s (objects.DeleteBuffers id) payload o = silent_delete (map.get s.buffers.names id)
+objects_silent s (objects.BindTexture target id) payload o = silent_bind Textures (bind_texture_call target) (λ n. tt) id o (map.get s.textures.names id)
+objects_silent s (objects.DeleteTextures id) payload o = silent_delete_textures (map.get s.textures.names id)
 objects_silent s (objects.DeleteShader shader) payload o = silent_unless (shader == 0) _ tt
 objects_silent s (objects.DeleteProgram program) payload o = silent_unless (program == 0) _ tt
 objects_silent s (objects.LinkProgram program) payload o = silent_link s.programs (number_of s.programs program) (program_at s.programs program)
 objects_silent s (objects.ValidateProgram program) payload o = silent_validate (number_of s.programs program) (program_at s.programs program)
 objects_silent s (objects.Uniform location kind count transpose words) payload o = silent_unless (is_nowhere location) _ tt
 objects_silent s c payload o = (tt, tt)
+
+-- and those of the commands on images
+images_silent : (s : EsState) (c : ImageCommand) (payload : List ℕ) → AreSilent (own_image_calls s c payload)
+images_silent s (images.TexImage2D i words) payload = (tt, tt)
+images_silent s (images.TexSubImage2D part words) payload = (tt, tt)
+images_silent s (images.TexParameteri target pname value) payload = (tt, tt)
 
 -- Calls that draw and clear
 
@@ -123,6 +148,7 @@ few_drawing call (Err e) x xs h = absurd (cc)
 few_drawing call (Ok plan) x xs h = few_if plan.draw (call plan.black) x xs h
 
 draws_few : (s : Sources) (c : DrawCommand) → AreFew (own_draw_calls s c)
+draws_few s (ActiveTexture unit) = λ x xs h. cc
 draws_few s (Raster number words) = few_if (is_driver_raster number) _
 draws_few s (Clear mask) = few_unless (mask == 0) _
 draws_few s (DrawArrays mode first count) = few_drawing _ (check_arrays s mode first count)
@@ -142,32 +168,48 @@ append_no_record : (made : List Record) → made ≡ made ++ []
 append_no_record [] = refl
 append_no_record (r ∷ made) = ap (λ (z : List Record). r ∷ z) (append_no_record made)
 
-module _ (w : WireState) (d : DriverState) (a : Agrees w d) where
-  draw_first : (c : DrawCommand) (es : List DriverEntry) (more : List DriverCall) → calls_in es ++ more ≡ own_draw_calls (sources_of w.es) c → AreFirst (records_in d es) (draw_records w.es c (read_contents d.contents))
-  draw_first c [] more h = none_first _
-  draw_first c (e ∷ es) more h =
+-- where nothing was recorded and nothing is
+no_records : (d : DriverState) (es : List DriverEntry) → records_in d es ≡ [] → AreFirst (records_in d es) []
+no_records d es none = ([], sym none ∙ append_no_record (records_in d es))
+
+-- Behind the zeroings
+
+module _ (w : WireState) (d : DriverState) where
+  draw_first : (c : DrawCommand) → Behind w d (Draw c) → (es : List DriverEntry) (more : List DriverCall) → calls_in es ++ more ≡ own_draw_calls (sources_of w.es) c → AreFirst (records_in d es) (draw_records w.es c (read_contents d.contents))
+  draw_first c b [] more h = none_first _
+  draw_first c b (e ∷ es) more h =
       let none : more ≡ [] = no_more (calls_in es) more (draws_few (sources_of w.es) c e.call (calls_in es ++ more) h) in
       let whole : calls_in (e ∷ es) ≡ own_draw_calls (sources_of w.es) c = append_none (calls_in (e ∷ es)) more none ∙ h in
-      ([], sym (draw_leaves w.es d a.tables a.images.screen c default_answers (e ∷ es) whole).records ∙ append_no_record (records_in d (e ∷ es)))
+      ([], sym (draw_leaves w.es d (zeroed w (Draw c)).covers b.tables b.images c b.written default_answers (e ∷ es) whole).records ∙ append_no_record (records_in d (e ∷ es)))
 
-  -- the calls of a command that is not refused
-  own_first : (c : Command) (payload : List ℕ) (o : Oracle) (es : List DriverEntry) (more : List DriverCall) → calls_in es ++ more ≡ own_calls w c payload o → (rest : Oracle) → AreFirst (records_in d es) (records_by None w.es c payload rest (read_contents d.contents))
-  own_first (Object c) payload o es more h rest =
-      let none : records_in d es ≡ [] = silent_first d es more (subst AreSilent (sym h) (objects_silent w.es c payload o)) in ([], sym none ∙ append_no_record (records_in d es))
-  own_first (Draw c) payload o es more h rest = draw_first c es more h
-  own_first Noop payload o es more h rest = nothing_first d es more [] h
-  own_first (SetToken token) payload o es more h rest = nothing_first d es more [] h
-  own_first (Bucket c) payload o es more h rest = nothing_first d es more [] h
-  own_first (Query c) payload o es more h rest = nothing_first d es more [] h
+  -- the own calls of a command
+  own_first : (c : Command) → Behind w d c → (payload : List ℕ) (o : Oracle) (es : List DriverEntry) (more : List DriverCall) → calls_in es ++ more ≡ own_calls w c payload o → (rest : Oracle) → AreFirst (records_in d es) (own_records w.es c payload rest (read_contents d.contents))
+  own_first (Object c) b payload o es more h rest = no_records d es (silent_first d es more (subst AreSilent (sym h) (objects_silent w.es c payload o)))
+  own_first (Image c) b payload o es more h rest = no_records d es (silent_first d es more (subst AreSilent (sym h) (images_silent w.es c payload)))
+  own_first (Draw c) b payload o es more h rest = draw_first c b es more h
+  own_first Noop b payload o es more h rest = nothing_first d es more [] h
+  own_first (SetToken token) b payload o es more h rest = nothing_first d es more [] h
+  own_first (Bucket c) b payload o es more h rest = nothing_first d es more [] h
+  own_first (Query c) b payload o es more h rest = nothing_first d es more [] h
+
+-- All calls
+
+module _ (w : WireState) (d : DriverState) (a : Agrees w d) where
+  -- the zeroings record nothing, and the own calls what the command records
+  joined_first : (c : Command) (payload : List ℕ) (o : Oracle) (xs ys : List DriverEntry) (more : List DriverCall) → calls_in xs ≡ zeroings_of w c → calls_in ys ++ more ≡ own_calls w c payload o → (rest : Oracle)
+      → AreFirst (records_in d (xs ++ ys)) (own_records w.es c payload rest (read_contents d.contents))
+  joined_first c payload o xs ys more are h rest =
+      let zeros = zeroed_left w d a c xs are in
+      let made : records_in d (xs ++ ys) ≡ records_in (state_after d xs) ys = records-append d xs ys ∙ ap (λ (r : List Record). r ++ records_in (state_after d xs) ys) zeros.records in
+      subst (λ (r : List Record). AreFirst r (own_records w.es c payload rest (read_contents d.contents))) (sym made)
+      (subst (λ (k : Contents). AreFirst (records_in (state_after d xs) ys) (own_records w.es c payload rest k)) zeros.reads (own_first w (state_after d xs) c (behind_zeroings w d a c xs are) payload o ys more h rest))
 
   first_by : (r : Option GlError) (c : Command) (payload : List ℕ) (o : Oracle) (es : List DriverEntry) (more : List DriverCall) → calls_in es ++ more ≡ calls_by r w c payload o → (rest : Oracle) → AreFirst (records_in d es) (records_by r w.es c payload rest (read_contents d.contents))
   first_by (Some e) c payload o es more h rest = nothing_first d es more [] h
-  first_by None Noop payload o es more h rest = own_first Noop payload o es more h rest
-  first_by None (SetToken token) payload o es more h rest = own_first (SetToken token) payload o es more h rest
-  first_by None (Bucket c) payload o es more h rest = own_first (Bucket c) payload o es more h rest
-  first_by None (Object c) payload o es more h rest = own_first (Object c) payload o es more h rest
-  first_by None (Draw c) payload o es more h rest = own_first (Draw c) payload o es more h rest
-  first_by None (Query c) payload o es more h rest = own_first (Query c) payload o es more h rest
+  first_by None c payload o es more h rest = elim (front_of_two (zeroings_of w c) (own_calls w c payload o) es more h) [
+    | inl p ↦ subst (λ (made : List Record). AreFirst made (own_records w.es c payload rest (read_contents d.contents))) (sym (zeroings_record_nothing w.es.textures.objects w.covers d (whole_first w c) es p.0 p.1)) (none_first _)
+    | inr p ↦ subst (λ (gs : List DriverEntry). AreFirst (records_in d gs) (own_records w.es c payload rest (read_contents d.contents))) (sym p.2) (joined_first c payload o p.0 p.1 more p.3 p.4 rest)
+  ]
 
   -- what the first calls of a command record is the first of what it records, whatever is answered behind them
   pub front_records : (c : Command) (payload : List ℕ) (o : Oracle) (es : List DriverEntry) (more : List DriverCall) → calls_in es ++ more ≡ command_calls w c payload o → (rest : Oracle) → AreFirst (records_in d es) (step_records w.es c payload rest (read_contents d.contents))

@@ -2,8 +2,11 @@
 pub mod Lists
 pub mod Refusals
 pub mod OwnLaws
+pub mod Tables
+pub mod TexturesAgree
 pub mod Binds
 pub mod Buffers
+pub mod Textures
 pub mod Attributes
 pub mod ProgramNames
 pub mod ProgramsAgree
@@ -11,6 +14,15 @@ pub mod Programs
 pub mod ProgramsInUse
 pub mod Uniforms
 pub mod Objects
+pub mod ObjectImages
+pub mod Places
+pub mod Pixels
+pub mod Zeroing
+pub mod Promised
+pub mod ImageSizes
+pub mod ImageTables
+pub mod Images
+pub mod Aligned
 pub mod Raster
 pub mod Draws
 pub mod Commands

@@ -1,13 +1,14 @@
 -- The own laws of the commands on objects, a line each.
 use Rattle.std.proofs.Common.{◌≡◌, ℕ, false, List, None}
 use Rattle.gl_plain.specs.declared.commands.ObjectCommand.{ObjectCommand}
-use Rattle.gl_plain.specs.declared.commands.ObjectCommand.TheVariants.{GenBuffers, BindBuffer, BufferData, BufferSubData, DeleteBuffers, VertexAttrib4f, VertexAttribPointer, EnableVertexAttribArray, DisableVertexAttribArray, CreateShader, ShaderSource, CompileShader, DeleteShader, CreateProgram, AttachShader, DetachShader, BindAttribLocation, LinkProgram, ValidateProgram, UseProgram, DeleteProgram, Uniform}
+use Rattle.gl_plain.specs.declared.commands.ObjectCommand.TheVariants.{GenBuffers, BindBuffer, BufferData, BufferSubData, DeleteBuffers, GenTextures, BindTexture, DeleteTextures, VertexAttrib4f, VertexAttribPointer, EnableVertexAttribArray, DisableVertexAttribArray, CreateShader, ShaderSource, CompileShader, DeleteShader, CreateProgram, AttachShader, DetachShader, BindAttribLocation, LinkProgram, ValidateProgram, UseProgram, DeleteProgram, Uniform}
 use Rattle.gl_plain.specs.State.{EsState, DriverState}
 use Rattle.gl_plain.specs.Agreement.{TablesAgree}
 use Rattle.gl_plain.specs.object.Arguments.{object_is_bad, IsObjectData}
 use Rattle.gl_plain.specs.object.Refusal.{object_command_refusal}
 use Rattle.gl_laws.proofs.OwnLaws.{OwnMayGoOn, OwnLeaves}
 use Rattle.gl_laws.proofs.Buffers.{gen_may, gen_leaves, bind_buffer_may, bind_buffer_leaves, buffer_data_may, buffer_data_leaves, buffer_sub_data_may, buffer_sub_data_leaves, delete_buffers_may, delete_buffers_leaves}
+use Rattle.gl_laws.proofs.Textures.{gen_textures_may, gen_textures_leaves, bind_texture_may, bind_texture_leaves, delete_textures_may, delete_textures_leaves}
 use Rattle.gl_laws.proofs.Programs.{create_shader_may, create_shader_leaves, create_program_may, create_program_leaves, shader_source_may, shader_source_leaves, compile_shader_may, compile_shader_leaves, attach_shader_may, attach_shader_leaves, detach_shader_may, detach_shader_leaves, bind_attrib_location_may, bind_attrib_location_leaves}
 use Rattle.gl_laws.proofs.ProgramsInUse.{delete_shader_may, delete_shader_leaves, delete_program_may, delete_program_leaves, link_program_may, link_program_leaves, validate_program_may, validate_program_leaves, use_program_may, use_program_leaves}
 use Rattle.gl_laws.proofs.Uniforms.{uniform_may, uniform_leaves}
@@ -20,6 +21,9 @@ module _ (s : EsState) (d : DriverState) (a : TablesAgree s d.tables) where
   object_may (BufferData target size usage words) payload fair allowed given = buffer_data_may s d a target size usage words payload allowed fair given
   object_may (BufferSubData target offset size words) payload fair allowed given = buffer_sub_data_may s d a target offset size words payload allowed fair given
   object_may (DeleteBuffers id) payload fair allowed given = delete_buffers_may s d a id payload
+  object_may (GenTextures id) payload fair allowed given = gen_textures_may s d a id payload fair
+  object_may (BindTexture target id) payload fair allowed given = bind_texture_may s d a target id payload allowed
+  object_may (DeleteTextures id) payload fair allowed given = delete_textures_may s d a id payload
   object_may (VertexAttrib4f index x y z w) payload fair allowed given = vertex_attrib_4f_may s d a index payload x y z w allowed
   object_may (VertexAttribPointer index w) payload fair allowed given = vertex_attrib_pointer_may s d a index payload w allowed
   object_may (EnableVertexAttribArray index) payload fair allowed given = enable_may s d a index payload allowed
@@ -44,6 +48,9 @@ module _ (s : EsState) (d : DriverState) (a : TablesAgree s d.tables) where
   object_leaves (BufferData target size usage words) payload fair allowed = buffer_data_leaves s d a target size usage words payload allowed
   object_leaves (BufferSubData target offset size words) payload fair allowed = buffer_sub_data_leaves s d a target offset size words payload allowed
   object_leaves (DeleteBuffers id) payload fair allowed = delete_buffers_leaves s d a id payload
+  object_leaves (GenTextures id) payload fair allowed = gen_textures_leaves s d a id payload fair
+  object_leaves (BindTexture target id) payload fair allowed = bind_texture_leaves s d a target id payload allowed
+  object_leaves (DeleteTextures id) payload fair allowed = delete_textures_leaves s d a id payload
   object_leaves (VertexAttrib4f index x y z w) payload fair allowed = vertex_attrib_4f_leaves s d a index payload x y z w
   object_leaves (VertexAttribPointer index w) payload fair allowed = vertex_attrib_pointer_leaves s d a index payload w
   object_leaves (EnableVertexAttribArray index) payload fair allowed = enable_leaves s d a index payload

@@ -17,23 +17,19 @@ use Rattle.gl_plain.specs.declared.driver_calls.DriverCall.{DriverCall}
 use Rattle.gl_plain.specs.declared.driver_calls.DriverCall.TheVariants.{Program}
 use Rattle.gl_plain.specs.declared.driver_calls.DriverEntry.{DriverEntry}
 use Rattle.gl_plain.specs.declared.driver_calls.ProgramDriver.TheVariants as calls
-use Rattle.gl_plain.specs.subjects.Programs.{ProgramTables, number_in, number_of, shader_by, program_by, is_shader_kind, create_is_bad, create_shader_refusal, shader_refusal, attach_refusal_by, attach_shader_refusal, has_its_kind, detach_refusal_by, detach_shader_refusal, is_among, is_built_in, bind_attrib_location_refusal, AreAlike, ProgramsAgree}
+use Rattle.gl_plain.specs.subjects.Programs.{ProgramTables, number_in, number_of, shader_by, program_by, is_shader_kind, create_is_bad, create_shader_refusal, shader_refusal, attach_refusal_by, attach_shader_refusal, has_its_kind, detach_refusal_by, detach_shader_refusal, is_among, is_built_in, bind_attrib_location_refusal, AreAlike}
 use Rattle.gl_plain.specs.Oracle.{Oracle}
-use Rattle.gl_plain.specs.State.{EsState, DriverTables, DriverState}
+use Rattle.gl_plain.specs.State.{EsState, DriverState}
 use Rattle.gl_plain.specs.driver.Allowed.{IsAllowed}
 use Rattle.gl_plain.specs.driver.Answers.{told}
-use Rattle.gl_plain.specs.driver.Effect.{programs_in}
 use Rattle.gl_plain.specs.Journal.{IsLegal, state_after}
 use Rattle.gl_plain.specs.Agreement.{TablesAgree}
 use Rattle.gl_plain.specs.object.Step.{object_step}
 use Rattle.gl_laws.proofs.Lists.{entry, one_entry, front_of_one}
 use Rattle.gl_laws.proofs.Refusals.{or_false, not_false, none_of, some_of, none_refused}
 use Rattle.gl_laws.proofs.OwnLaws.{StepLeft, OwnMayGoOn, OwnLeaves}
+use Rattle.gl_laws.proofs.Tables.{with_programs, with_new_program}
 use Rattle.gl_laws.proofs.ProgramsAgree.{agree_shader, agree_program, agree_source, agree_compiled, agree_attached, agree_detached, agree_bound}
-
--- the tables with other programs
-pub with_other_programs : (s : EsState) (t : DriverTables) (x y : ProgramTables) → TablesAgree s t → ProgramsAgree x y t.given.programs → TablesAgree (record s { programs = x }) (programs_in t y)
-with_other_programs s t x y a agree = record { surface = a.surface; buffers = a.buffers; attribs = a.attribs; programs = agree; raster = a.raster }
 
 -- CreateShader and CreateProgram
 
@@ -52,13 +48,7 @@ module _ (s : EsState) (d : DriverState) (a : TablesAgree s d.tables) (id : ℕ)
       → StepLeft d (object_step s (CreateShader id kind) payload (told (entry (Program (calls.CreateShader kind)) answer ∷ []) o)) o (entry (Program (calls.CreateShader kind)) answer ∷ [])
   shader_by_answer kind o (Name n) l = record {
     asked = refl;
-    agrees = record {
-      surface = a.surface;
-      buffers = a.buffers;
-      attribs = a.attribs;
-      programs = agree_shader s.programs d.tables.programs d.tables.given.programs a.programs id n kind (free s.programs id fair) (positive s.programs id fair) l.0.answered;
-      raster = a.raster;
-    };
+    agrees = with_new_program s d.tables _ _ n a (agree_shader s.programs d.tables.programs d.tables.given.programs a.programs id n kind (free s.programs id fair) (positive s.programs id fair) l.0.answered);
     contents = refl;
     records = refl;
   }
@@ -74,13 +64,7 @@ module _ (s : EsState) (d : DriverState) (a : TablesAgree s d.tables) (id : ℕ)
       → StepLeft d (object_step s (CreateProgram id) payload (told (entry (Program calls.CreateProgram) answer ∷ []) o)) o (entry (Program calls.CreateProgram) answer ∷ [])
   program_by_answer o (Name n) l = record {
     asked = refl;
-    agrees = record {
-      surface = a.surface;
-      buffers = a.buffers;
-      attribs = a.attribs;
-      programs = agree_program s.programs d.tables.programs d.tables.given.programs a.programs id n (free s.programs id fair) (positive s.programs id fair) l.0.answered;
-      raster = a.raster;
-    };
+    agrees = with_new_program s d.tables _ _ n a (agree_program s.programs d.tables.programs d.tables.given.programs a.programs id n (free s.programs id fair) (positive s.programs id fair) l.0.answered);
     contents = refl;
     records = refl;
   }
@@ -119,7 +103,7 @@ module _ (s : EsState) (d : DriverState) (a : TablesAgree s d.tables) (shader : 
   shader_source_leaves words o es l h = one_entry (λ (gs : List DriverEntry). StepLeft d (object_step s (ShaderSource shader words) payload (told gs o)) o gs) (Program (calls.ShaderSource number payload))
       (λ answer. record {
         asked = refl;
-        agrees = with_other_programs s d.tables _ _ a (agree_source s.programs d.tables.programs d.tables.given.programs a.programs number payload);
+        agrees = with_programs s d.tables _ _ a (agree_source s.programs d.tables.programs d.tables.given.programs a.programs number payload);
         contents = refl;
         records = refl;
       }) es h
@@ -132,7 +116,7 @@ module _ (s : EsState) (d : DriverState) (a : TablesAgree s d.tables) (shader : 
       → StepLeft d (object_step s (CompileShader shader) payload (told (entry (Program (calls.CompileShader number)) answer ∷ []) o)) o (entry (Program (calls.CompileShader number)) answer ∷ [])
   compiled_by_answer o (Compile ok log) l = record {
     asked = refl;
-    agrees = with_other_programs s d.tables _ _ a (agree_compiled s.programs d.tables.programs d.tables.given.programs a.programs number (record { ok = ok; log = log }));
+    agrees = with_programs s d.tables _ _ a (agree_compiled s.programs d.tables.programs d.tables.given.programs a.programs number (record { ok = ok; log = log }));
     contents = refl;
     records = refl;
   }
@@ -190,7 +174,7 @@ module _ (s : EsState) (d : DriverState) (a : TablesAgree s d.tables) (program s
   attach_shader_leaves o es l h = one_entry (λ (gs : List DriverEntry). StepLeft d (object_step s (AttachShader program shader) payload (told gs o)) o gs) (Program (calls.AttachShader n m))
       (λ answer. record {
         asked = refl;
-        agrees = with_other_programs s d.tables _ _ a (agree_attached s.programs d.tables.programs d.tables.given.programs a.programs n m);
+        agrees = with_programs s d.tables _ _ a (agree_attached s.programs d.tables.programs d.tables.given.programs a.programs n m);
         contents = refl;
         records = refl;
       }) es h
@@ -207,7 +191,7 @@ module _ (s : EsState) (d : DriverState) (a : TablesAgree s d.tables) (program s
   detach_shader_leaves o es l h = one_entry (λ (gs : List DriverEntry). StepLeft d (object_step s (DetachShader program shader) payload (told gs o)) o gs) (Program (calls.DetachShader n m))
       (λ answer. record {
         asked = refl;
-        agrees = with_other_programs s d.tables _ _ a (agree_detached s.programs d.tables.programs d.tables.given.programs a.programs n m);
+        agrees = with_programs s d.tables _ _ a (agree_detached s.programs d.tables.programs d.tables.given.programs a.programs n m);
         contents = refl;
         records = refl;
       }) es h
@@ -247,7 +231,7 @@ module _ (s : EsState) (d : DriverState) (a : TablesAgree s d.tables) (program i
   bind_attrib_location_leaves o es l h = one_entry (λ (gs : List DriverEntry). StepLeft d (object_step s (BindAttribLocation program index words) payload (told gs o)) o gs) (Program (calls.BindAttribLocation (number_of s.programs program) index payload))
       (λ answer. record {
         asked = refl;
-        agrees = with_other_programs s d.tables _ _ a (agree_bound s.programs d.tables.programs d.tables.given.programs a.programs (number_of s.programs program) index payload);
+        agrees = with_programs s d.tables _ _ a (agree_bound s.programs d.tables.programs d.tables.given.programs a.programs (number_of s.programs program) index payload);
         contents = refl;
         records = refl;
       }) es h

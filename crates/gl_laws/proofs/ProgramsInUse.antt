@@ -29,7 +29,8 @@ use Rattle.gl_laws.proofs.Refusals.{some_of, none_refused}
 use Rattle.gl_laws.proofs.OwnLaws.{StepLeft, OwnMayGoOn, OwnLeaves}
 use Rattle.gl_laws.proofs.Binds.{is_zero}
 use Rattle.gl_laws.proofs.ProgramsAgree.{linked_too, agree_shader_deleted, agree_program_deleted, agree_linked, agree_failed_link, agree_validated, agree_unlinked, agree_use, same_executable_at}
-use Rattle.gl_laws.proofs.Programs.{with_other_programs, live_shader, some_too}
+use Rattle.gl_laws.proofs.Tables.{with_programs}
+use Rattle.gl_laws.proofs.Programs.{live_shader, some_too}
 
 -- DeleteShader and DeleteProgram
 
@@ -73,7 +74,7 @@ module _ (s : EsState) (d : DriverState) (a : TablesAgree s d.tables) (payload :
   delete_shader_leaves shader o es l h = delete_by (DeleteShader shader) (Program (calls.DeleteShader (number_of s.programs shader))) (shader == 0) (delete_shader_effect s.programs (number_of s.programs shader))
       (λ answer o. record {
         asked = refl;
-        agrees = with_other_programs s d.tables _ _ a (agree_shader_deleted s.programs d.tables.programs d.tables.given.programs a.programs (number_of s.programs shader));
+        agrees = with_programs s d.tables _ _ a (agree_shader_deleted s.programs d.tables.programs d.tables.given.programs a.programs (number_of s.programs shader));
         contents = refl;
         records = refl;
       }) o es h
@@ -82,7 +83,7 @@ module _ (s : EsState) (d : DriverState) (a : TablesAgree s d.tables) (payload :
   delete_program_leaves program o es l h = delete_by (DeleteProgram program) (Program (calls.DeleteProgram (number_of s.programs program))) (program == 0) (delete_program_effect s.programs (number_of s.programs program))
       (λ answer o. record {
         asked = refl;
-        agrees = with_other_programs s d.tables _ _ a (agree_program_deleted s.programs d.tables.programs d.tables.given.programs a.programs (number_of s.programs program));
+        agrees = with_programs s d.tables _ _ a (agree_program_deleted s.programs d.tables.programs d.tables.given.programs a.programs (number_of s.programs program));
         contents = refl;
         records = refl;
       }) o es h
@@ -136,7 +137,7 @@ module _ (s : EsState) (d : DriverState) (a : TablesAgree s d.tables) (program :
       → StepLeft d (with_object_reply (LinkProgram program) (link_made true (told (entry (Program (calls.LinkProgram n)) answer ∷ []) o))) o (entry (Program (calls.LinkProgram n)) answer ∷ [])
   linked_by_answer o (Link said) l = record {
     asked = refl;
-    agrees = with_other_programs s d.tables _ _ a (agree_linked s.programs d.tables.programs d.tables.given.programs a.programs n said);
+    agrees = with_programs s d.tables _ _ a (agree_linked s.programs d.tables.programs d.tables.given.programs a.programs n said);
     contents = refl;
     records = refl;
   }
@@ -149,7 +150,7 @@ module _ (s : EsState) (d : DriverState) (a : TablesAgree s d.tables) (program :
   link_left_if true o es l h = one_entry (λ (gs : List DriverEntry). IsLegal d gs → StepLeft d (with_object_reply (LinkProgram program) (link_made true (told gs o))) o gs) (Program (calls.LinkProgram n)) (linked_by_answer o) es h l
   link_left_if false o es l h = no_entry (λ (gs : List DriverEntry). StepLeft d (with_object_reply (LinkProgram program) (link_made false (told gs o))) o gs) (record {
     asked = refl;
-    agrees = with_other_programs s d.tables (link_program_effect s.programs n failed_link) d.tables.programs a (agree_failed_link s.programs d.tables.programs d.tables.given.programs a.programs n);
+    agrees = with_programs s d.tables (link_program_effect s.programs n failed_link) d.tables.programs a (agree_failed_link s.programs d.tables.programs d.tables.given.programs a.programs n);
     contents = refl;
     records = refl;
   }) es h
@@ -173,7 +174,7 @@ module _ (s : EsState) (d : DriverState) (a : TablesAgree s d.tables) (program :
       → StepLeft d (with_object_reply (ValidateProgram program) (validation_made true (told (entry (Program (calls.ValidateProgram n)) answer ∷ []) o))) o (entry (Program (calls.ValidateProgram n)) answer ∷ [])
   validated_by_answer o (Validate ok log) l = record {
     asked = refl;
-    agrees = with_other_programs s d.tables _ _ a (agree_validated s.programs d.tables.programs d.tables.given.programs a.programs n (record { ok = ok; log = log }));
+    agrees = with_programs s d.tables _ _ a (agree_validated s.programs d.tables.programs d.tables.given.programs a.programs n (record { ok = ok; log = log }));
     contents = refl;
     records = refl;
   }
@@ -183,7 +184,7 @@ module _ (s : EsState) (d : DriverState) (a : TablesAgree s d.tables) (program :
   validate_left_if true o es l h = one_entry (λ (gs : List DriverEntry). IsLegal d gs → StepLeft d (with_object_reply (ValidateProgram program) (validation_made true (told gs o))) o gs) (Program (calls.ValidateProgram n)) (validated_by_answer o) es h l
   validate_left_if false o es l h = no_entry (λ (gs : List DriverEntry). StepLeft d (with_object_reply (ValidateProgram program) (validation_made false (told gs o))) o gs) (record {
     asked = refl;
-    agrees = with_other_programs s d.tables (validate_unlinked_effect s.programs n) d.tables.programs a (agree_unlinked s.programs d.tables.programs d.tables.given.programs a.programs n);
+    agrees = with_programs s d.tables (validate_unlinked_effect s.programs n) d.tables.programs a (agree_unlinked s.programs d.tables.programs d.tables.given.programs a.programs n);
     contents = refl;
     records = refl;
   }) es h
@@ -235,7 +236,7 @@ module _ (s : EsState) (d : DriverState) (a : TablesAgree s d.tables) (program :
   use_program_leaves o es l h = one_entry (λ (gs : List DriverEntry). StepLeft d (object_step s (UseProgram program) payload (told gs o)) o gs) (Program (calls.UseProgram used))
       (λ answer. record {
         asked = refl;
-        agrees = with_other_programs s d.tables _ _ a (agree_use s.programs d.tables.programs d.tables.given.programs a.programs used (same_installed usable));
+        agrees = with_programs s d.tables _ _ a (agree_use s.programs d.tables.programs d.tables.given.programs a.programs used (same_installed usable));
         contents = refl;
         records = refl;
       }) es h

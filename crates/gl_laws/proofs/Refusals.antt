@@ -26,3 +26,8 @@ pub none_refused : (b c : Bool) (e f : GlError) → (if b then Some e else if c 
 none_refused true c e f h = absurd (cc)
 none_refused false true e f h = absurd (cc)
 none_refused false false e f h = (refl, refl)
+
+-- what is not refused by a test and what follows is refused by neither
+pub not_refused_by : (b : Bool) (e : GlError) (rest : Option GlError) → (if b then Some e else rest) ≡ None → (b ≡ false) × (rest ≡ None)
+not_refused_by true e rest h = absurd (cc)
+not_refused_by false e rest h = (refl, h)

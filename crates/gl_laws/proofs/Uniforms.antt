@@ -25,7 +25,7 @@ use Rattle.gl_plain.specs.subjects.Data.{IsData, has_no_data, has_needed_data, h
 use Rattle.gl_plain.specs.subjects.Links.{is_array, is_sampler}
 use Rattle.gl_plain.specs.subjects.Programs.{ProgramTables, changed_by, changed_at, ProgramAgrees, AreAlike, ProgramsAgree}
 use Rattle.gl_plain.specs.subjects.Uniforms.{is_given_kind, is_matrix, given_words, given_count, uniform_needed, uniform_is_bad, ElementPlace, place_of, as_stored, words_given, suits, has_no_unit, element_refusal, place_refusal, is_nowhere, located_refusal, uniform_refusal, values_by, with_uniform, uniform_effect, uniform_calls, TakesElements, TakesAt, IsUniformAllowed}
-use Rattle.gl_plain.specs.State.{EsState, DriverTables, DriverState}
+use Rattle.gl_plain.specs.State.{EsState, DriverState}
 use Rattle.gl_plain.specs.driver.Allowed.{IsAllowed}
 use Rattle.gl_plain.specs.driver.Answers.{told}
 use Rattle.gl_plain.specs.Journal.{state_after}
@@ -34,11 +34,8 @@ use Rattle.gl_plain.specs.Agreement.{TablesAgree}
 use Rattle.gl_plain.specs.object.Step.{object_step}
 use Rattle.gl_laws.proofs.Lists.{no_entry, one_entry, front_of_one, not_nil}
 use Rattle.gl_laws.proofs.OwnLaws.{StepLeft, OwnMayGoOn, OwnLeaves}
-
--- what is not refused by a test and what follows is refused by neither
-none_refused : (b : Bool) (e : GlError) (rest : Option GlError) → (if b then Some e else rest) ≡ None → (b ≡ false) × (rest ≡ None)
-none_refused true e rest h = absurd (cc)
-none_refused false e rest h = (refl, h)
+use Rattle.gl_laws.proofs.Refusals.{not_refused_by}
+use Rattle.gl_laws.proofs.Tables.{with_programs}
 
 -- The count of the driver call
 
@@ -100,9 +97,9 @@ same_words p kind count bytes = ap (λ (n : ℕ). words_from bytes 0 (given_word
 
 element_taken : (p : ElementPlace) (kind : ℕ) (count : ℤ) (bytes : List ℕ) → Given kind count bytes → element_refusal p kind count bytes ≡ None → TakesElements p kind (pos (given_count count)) bytes
 element_taken p kind count bytes given allowed =
-    let first : (not (suits kind p.uniform.kind) ≡ false) × _ = none_refused (not (suits kind p.uniform.kind)) _ _ allowed in
-    let second : ((nat_lt 1 (natural count) && not (is_array p.uniform)) ≡ false) × _ = none_refused (nat_lt 1 (natural count) && not (is_array p.uniform)) _ _ first.1 in
-    let third : ((is_sampler p.uniform.kind && has_no_unit (words_given p kind count bytes)) ≡ false) × _ = none_refused (is_sampler p.uniform.kind && has_no_unit (words_given p kind count bytes)) _ _ second.1 in
+    let first : (not (suits kind p.uniform.kind) ≡ false) × _ = not_refused_by (not (suits kind p.uniform.kind)) _ _ allowed in
+    let second : ((nat_lt 1 (natural count) && not (is_array p.uniform)) ≡ false) × _ = not_refused_by (nat_lt 1 (natural count) && not (is_array p.uniform)) _ _ first.1 in
+    let third : ((is_sampler p.uniform.kind && has_no_unit (words_given p kind count bytes)) ≡ false) × _ = not_refused_by (is_sampler p.uniform.kind && has_no_unit (words_given p kind count bytes)) _ _ second.1 in
     record {
       suited = not-false (suits kind p.uniform.kind) first.0;
       several = fewer (natural count) (not (is_array p.uniform)) second.0;
@@ -232,10 +229,6 @@ module _ (f : Executable → Executable) where
 
 -- Uniform
 
--- the tables with other programs
-with_programs : (s : EsState) (t : DriverTables) (x y : ProgramTables) → TablesAgree s t → ProgramsAgree x y t.given.programs → TablesAgree (record s { programs = x }) (record t { programs = y })
-with_programs s t x y a agree = record { surface = a.surface; buffers = a.buffers; attribs = a.attribs; programs = agree; raster = a.raster }
-
 -- the call, where the location is not -1
 calls_by : (P : List DriverCall → Type 0) (location : ℤ) (kind : ℕ) (count : ℤ) (bytes : List ℕ) → (is_nowhere location ≡ true → P []) → (is_nowhere location ≡ false → P (driver.Program (calls.Uniform location kind (pos (given_count count)) bytes) ∷ []))
     → P (uniform_calls location kind count bytes)
@@ -251,8 +244,8 @@ module _ (s : EsState) (d : DriverState) (a : TablesAgree s d.tables) (location 
 
   own_allowed : IsData words payload → is_nowhere location ≡ false → IsAllowed d own_call
   own_allowed given somewhere =
-      let first : (is_negative count ≡ false) × _ = none_refused (is_negative count) _ _ allowed in
-      let second : ((transpose && is_matrix kind) ≡ false) × _ = none_refused (transpose && is_matrix kind) _ _ first.1 in
+      let first : (is_negative count ≡ false) × _ = not_refused_by (is_negative count) _ _ allowed in
+      let second : ((transpose && is_matrix kind) ≡ false) × _ = not_refused_by (transpose && is_matrix kind) _ _ first.1 in
       subst (λ (o : Option Executable). IsUniformAllowed o location kind (pos (given_count count)) payload) a.programs.installed
       (call_allowed s.programs.installed location kind count payload (given_by words kind count payload first.0 fair given) somewhere second.1)
 

@@ -9,3 +9,6 @@ mod ProgramRows
 pub mod Keys
 pub mod Digits
 pub mod SoundAnswers
+pub mod Chains
+pub mod Edits
+pub mod SoundTextures

@@ -1,10 +1,20 @@
 -- At the opening the service and its driver agree.
-use Rattle.std.proofs.Common.{◌≡◌, ℕ, refl, None, Some}
+use Rattle.std.proofs.Common.{◌≡◌, ℕ, ◌+◌, ◌*◌, ◌==◌, ◌&&◌, nat_le, if◌then◌else◌, Bool, true, false, refl, sym, ap, subst, replicate, slice_index_or, Option, None, Some}
+use Prim.Native.Nat.{zero, suc}
 use Rattle.std.specs.FinMap as map
 use Rattle.std.specs.Ordering.{nat_cmp}
 use Rattle.std.specs.FinSet as set
 use Rattle.gl_plain.specs.declared.objects.Name.{Name}
 use Rattle.gl_plain.specs.declared.programs.Program.{Program}
+use Rattle.gl_base.specs.declared.gl_enum.GlEnum.{GlEnum}
+use Rattle.gl_base.specs.declared.limits.TheConstants.{LAST_LEVEL}
+use Rattle.gl_plain.specs.declared.textures.LevelView.{LevelView}
+use Rattle.gl_plain.specs.declared.textures.ImagePlace.{ImagePlace}
+use Rattle.gl_plain.specs.declared.textures.Texture.{Texture}
+use Rattle.gl_plain.specs.declared.textures.TextureUnit.{TextureUnit}
+use Rattle.gl_plain.specs.subjects.Levels.{is_cube_face, suits, face_count, level_index, level_of, level_in, new_texture}
+use Rattle.gl_plain.specs.subjects.Textures.{no_textures, default_texture, level_at, no_binding, no_bindings, unit_at, bound_in, texture_at, IsOfKind, AreTexturesSound}
+use Rattle.gl_plain.specs.subjects.Images.{Undefined, IsCovered, no_covers, no_rect}
 use Rattle.gl_plain.specs.subjects.Names.{NamesAgree}
 use Rattle.gl_plain.specs.subjects.Programs.{AreInverse, AreAlike}
 use Rattle.gl_plain.specs.State.{Surface, opening_wire, opening_driver}
@@ -35,6 +45,66 @@ no_owners = record { named = λ id x e. absurd (absent id x e); owned = λ n id 
 no_programs_alike : (n : ℕ) → AreAlike (map.get (map.empty {X = Program} {R = nat_cmp}) n) (map.get (map.empty {X = Program} {R = nat_cmp}) n)
 no_programs_alike n = rw (map.get-empty {X = Program} nat_cmp n) tt
 
+abbrev no_view : Option LevelView
+no_view = None
+
+-- a list of none has none at every place
+none_at : (n k : ℕ) → slice_index_or (replicate n no_view) k no_view ≡ no_view
+none_at zero k = refl
+none_at (suc n) zero = refl
+none_at (suc n) (suc k) = none_at n k
+
+-- no level is among them
+pub no_view_at : (n k : ℕ) (v : LevelView) → slice_index_or (replicate n no_view) k no_view ≡ Some v → ⊥
+no_view_at n k v e = let none = none_at n k in cc
+
+if_there : (b : Bool) (level : Option LevelView) → level ≡ None → (if b then level else None) ≡ None
+if_there true level e = e
+if_there false level e = refl
+
+-- a texture opens without images
+pub no_level : (cube : Bool) (face : GlEnum) (level : ℕ) → level_of (new_texture cube) face level ≡ None
+no_level cube face level = if_there (suits cube face && nat_le level LAST_LEVEL) _ (none_at (face_count cube * (LAST_LEVEL + 1)) (level_index face level))
+
+bindings : (n k : ℕ) → slice_index_or (replicate n no_binding) k no_binding ≡ no_binding
+bindings zero k = refl
+bindings (suc n) zero = refl
+bindings (suc n) (suc k) = bindings n k
+
+default_kind : (cube : Bool) → IsOfKind cube (texture_at no_textures.objects (bound_in no_binding cube) cube)
+default_kind true = refl
+default_kind false = refl
+
+no_level_by : (b cube : Bool) (number : ℕ) (face : GlEnum) (level : ℕ)
+    → level_in (if b then Some (default_texture no_textures.objects cube) else map.get (map.empty {X = Texture} {R = nat_cmp}) number) face level ≡ None
+no_level_by true true number face level = no_level true face level
+no_level_by true false number face level = no_level false face level
+no_level_by false cube number face level = ap (λ t. level_in t face level) (map.get-empty {X = Texture} nat_cmp number)
+
+-- nothing is written of any image
+nothing_written : (place : ImagePlace) → IsCovered (level_at no_textures.objects place) (no_covers place) (λ x y. Undefined)
+nothing_written place =
+    subst (λ v. IsCovered v no_rect (λ x y. Undefined)) (sym (no_level_by (place.texture == 0) (is_cube_face place.face) place.texture place.face place.level)) refl
+
+no_texture : (key : ℕ) (x : Texture) → map.get (map.empty {R = nat_cmp}) key ≡ Some x → ⊥
+no_texture key x e = let none : map.get (map.empty {X = Texture} {R = nat_cmp}) key ≡ None = map.get-empty nat_cmp key in cc
+
+-- all units bind the default textures
+no_binding_at : (unit : ℕ) → unit_at no_bindings unit ≡ no_binding
+no_binding_at unit = bindings 8 unit
+
+no_textures_sound : AreTexturesSound no_textures
+no_textures_sound = record {
+  made = λ id name e. absurd (absent id name e);
+  owned = λ n x e. absurd (no_texture n x e);
+  sized = λ n x e. absurd (no_texture n x e);
+  flat_sized = record { count = refl; sides = λ at v e. absurd (no_view_at 12 at v e) };
+  cube_sized = record { count = refl; sides = λ at v e. absurd (no_view_at 72 at v e) };
+  flat_kind = refl;
+  cube_kind = refl;
+  bound = λ unit cube. subst (λ (u : TextureUnit). IsOfKind cube (texture_at no_textures.objects (bound_in u cube) cube)) (sym (no_binding_at unit)) (default_kind cube);
+}
+
 -- no name is in use, and no image but those of the default framebuffer is there
 pub opening_agrees : (surface : Surface) → Agrees (opening_wire surface) (opening_driver surface)
 opening_agrees surface = record {
@@ -45,6 +115,11 @@ opening_agrees surface = record {
       objects = refl;
       array = refl;
       element = refl;
+    };
+    textures = record {
+      names = no_names;
+      objects = refl;
+      sound = no_textures_sound;
     };
     attribs = refl;
     raster = refl;
@@ -58,5 +133,6 @@ opening_agrees surface = record {
       installed = refl;
     };
   };
-  images = record { covers = elim [ ]; screen = λ i x y. refl };
+  images = record { covers = nothing_written; screen = λ i x y. refl };
+  aligned = refl;
 }

@@ -1,33 +1,42 @@
--- The written rectangles that the service keeps, and the zeroings that they call for. There are no images of objects yet.
-use Rattle.std.specs.Prelude.{List, [], ◌∷◌, ◌++◌}
+-- The zeroings that the written rectangles call for.
+use Rattle.std.specs.Prelude.{List, [], ◌∷◌, ◌++◌, Option, None, Some}
 use Rattle.gl_base.specs.declared.rect.Rect.{Rect}
+use Rattle.gl_base.specs.Rects.{whole}
 use Rattle.gl_plain.specs.declared.driver_calls.DriverCall.{DriverCall}
-use Rattle.gl_plain.specs.subjects.Images.{ImagePlace, Covers}
-use Rattle.gl_plain.specs.State.{EsState}
+use Rattle.gl_plain.specs.declared.driver_calls.DriverCall.TheVariants.{Image}
+use Rattle.gl_plain.specs.declared.driver_calls.ImageDriver.TheVariants as calls
+use Rattle.gl_plain.specs.declared.textures.LevelView.{LevelView}
+use Rattle.gl_plain.specs.declared.textures.ImagePlace.{ImagePlace}
+use Rattle.gl_plain.specs.subjects.Textures.{TextureObjects, level_at}
+use Rattle.gl_plain.specs.subjects.Images.{Covers, with_cover, rest_at}
 
--- what was not written of an image, as at most four rectangles
-abbrev pub unwritten : EsState → Covers → ImagePlace → List Rect
-unwritten s f = elim [ ]
+-- what was not written of an image
+abbrev pub unwritten : TextureObjects → Covers → ImagePlace → List Rect
+unwritten t f place = rest_at (level_at t place) (f place)
 
--- an image is written whole
-abbrev pub filled : EsState → Covers → ImagePlace → Covers
-filled s f = elim [ ]
+abbrev pub filled_by : Covers → ImagePlace → Option LevelView → Covers
+filled_by f place None = f
+filled_by f place (Some v) = with_cover f place (whole v.width v.height)
+
+-- an image that is there is written whole
+abbrev pub filled : TextureObjects → Covers → ImagePlace → Covers
+filled t f place = filled_by f place (level_at t place)
 
 -- the call that zeroes a rectangle of an image
 abbrev pub zero_call : ImagePlace → Rect → DriverCall
-zero_call = elim [ ]
+zero_call place r = Image (calls.ZeroLevel place r)
 
 -- the calls that zero these rectangles of an image
 abbrev pub zero_calls : ImagePlace → List Rect → List DriverCall
-zero_calls i [] = []
-zero_calls i (r ∷ rs) = zero_call i r ∷ zero_calls i rs
+zero_calls place [] = []
+zero_calls place (r ∷ rs) = zero_call place r ∷ zero_calls place rs
 
 -- the calls that zero what was not written of these images, in order
-abbrev pub zeroings : EsState → Covers → List ImagePlace → List DriverCall
-zeroings s f [] = []
-zeroings s f (i ∷ is) = zero_calls i (unwritten s f i) ++ zeroings s (filled s f i) is
+abbrev pub zeroings : TextureObjects → Covers → List ImagePlace → List DriverCall
+zeroings t f [] = []
+zeroings t f (place ∷ places) = zero_calls place (unwritten t f place) ++ zeroings t (filled t f place) places
 
 -- what is written after them
-abbrev pub all_filled : EsState → Covers → List ImagePlace → Covers
-all_filled s f [] = f
-all_filled s f (i ∷ is) = all_filled s (filled s f i) is
+abbrev pub all_filled : TextureObjects → Covers → List ImagePlace → Covers
+all_filled t f [] = f
+all_filled t f (place ∷ places) = all_filled t (filled t f place) places

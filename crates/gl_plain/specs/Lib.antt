@@ -9,6 +9,7 @@ pub mod Oracle
 pub mod Spaces
 pub mod Outcome
 pub mod object
+pub mod image
 pub mod draw
 pub mod query
 pub mod driver
@@ -21,6 +22,7 @@ pub mod Run
 pub mod Records
 pub mod Journal
 pub mod Parts
+pub mod Promises
 pub mod Agreement
 pub mod Lawful
 pub mod Stops

@@ -37,6 +37,8 @@ counted_from n k = n + k
 pub record Oracle : Type 0 where
   -- the numbers that new buffers get
   pub buffers : ℕ → ℕ
+  -- the numbers that new textures get
+  pub textures : ℕ → ℕ
   -- the numbers that new shaders and programs get
   pub programs : ℕ → ℕ
   -- what compilations, links and validations say
@@ -50,6 +52,7 @@ pub record Oracle : Type 0 where
 abbrev pub default_answers : Oracle
 default_answers = record {
   buffers = counted_from 1;
+  textures = counted_from 1;
   programs = counted_from 1;
   compile = λ k. default_verdict;
   link = λ k. default_link;
@@ -99,6 +102,7 @@ stored_at oom question = if list_any (λ n. n == question) oom then room.Oom els
 abbrev pub answers_of : Answers → Oracle
 answers_of given = record {
   buffers = counted_from 1;
+  textures = counted_from 1;
   programs = counted_from 1;
   compile = λ k. compile_in (slice_get given.compile k);
   link = λ k. link_in (slice_get given.link k);

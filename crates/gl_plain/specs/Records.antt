@@ -2,24 +2,31 @@
 use Rattle.std.specs.Prelude.{ℕ, ℤ, Bool, true, false, ◌==◌, if◌then◌else◌, List, [], ◌∷◌, ◌++◌, map, Option, None, Some, Result, Ok, Err}
 use Rattle.gl_plain.specs.declared.errors.GlError.{GlError}
 use Rattle.gl_plain.specs.declared.commands.Command.{Command}
-use Rattle.gl_plain.specs.declared.commands.Command.TheVariants.{Noop, SetToken, Bucket, Object, Draw, Query}
+use Rattle.gl_plain.specs.declared.commands.Command.TheVariants.{Noop, SetToken, Bucket, Object, Image, Draw, Query}
 use Rattle.gl_plain.specs.declared.commands.Fetched.{Fetched}
 use Rattle.gl_plain.specs.declared.driver_calls.Answer.{Answer}
 use Rattle.gl_plain.specs.declared.driver_calls.DriverCall.{DriverCall}
 use Rattle.gl_plain.specs.declared.driver_calls.DriverCall.TheVariants as driver
 use Rattle.gl_base.specs.declared.gl_enum.GlEnum.{GlEnum}
 use Rattle.gl_plain.specs.declared.commands.DrawCommand.{DrawCommand}
-use Rattle.gl_plain.specs.declared.commands.DrawCommand.TheVariants.{Raster, Clear, DrawArrays, DrawElements, Flush, Finish}
+use Rattle.gl_plain.specs.declared.commands.DrawCommand.TheVariants.{ActiveTexture, Raster, Clear, DrawArrays, DrawElements, Flush, Finish}
 use Rattle.gl_plain.specs.declared.draws.DrawPlan.{DrawPlan}
 use Rattle.gl_plain.specs.declared.driver_calls.DrawDriver.{DrawDriver}
 use Rattle.gl_plain.specs.declared.driver_calls.DrawDriver.TheVariants as calls
 use Rattle.gl_plain.specs.declared.programs.Executable.{Executable}
 use Rattle.gl_plain.specs.declared.raster.RasterWords.{RasterWords}
-use Rattle.gl_plain.specs.subjects.Images.{Contents, Screen}
-use Rattle.gl_plain.specs.subjects.Draws.{Sources, VertexValue, Sample, vertex_of, elements_from, element_bytes, indices, samples_of, all_units, check_arrays, check_indexed}
+use Rattle.gl_base.specs.PixelSizes.{pixel_size}
+use Rattle.gl_plain.specs.declared.commands.ImageCommand.{ImageCommand}
+use Rattle.gl_plain.specs.declared.commands.ImageCommand.TheVariants.{TexImage2D, TexSubImage2D, TexParameteri}
+use Rattle.gl_plain.specs.declared.driver_calls.Stored.{Stored}
+use Rattle.gl_plain.specs.declared.driver_calls.Stored.TheVariants as room
+use Rattle.gl_plain.specs.subjects.Data.{payload_of}
+use Rattle.gl_plain.specs.subjects.Textures.{place_bound}
+use Rattle.gl_plain.specs.subjects.Images.{Contents, Screen, Zero, view_of, with_image, with_pixels, new_pixels, pixels_of, unpadded_payload, unpadded_part, part_rect}
+use Rattle.gl_plain.specs.subjects.Draws.{Sources, VertexValue, Sample, vertex_of, elements_from, element_bytes, indices, samples_of, check_arrays, check_indexed}
 use Rattle.gl_plain.specs.subjects.Clears.{cleared, drawn}
 use Rattle.gl_plain.specs.Words.{natural}
-use Rattle.gl_plain.specs.Oracle.{Oracle}
+use Rattle.gl_plain.specs.Oracle.{Oracle, first}
 use Rattle.gl_plain.specs.State.{EsState, WireState, DriverState, sources_of, sources_in}
 use Rattle.gl_plain.specs.Commands.{command_of}
 use Rattle.gl_plain.specs.Wire.{command_refusal, given_to}
@@ -54,7 +61,7 @@ draw_record s raster k mode elements = DrawRecord (record {
   mode = mode;
   vertices = map (vertex_of s) elements;
   executable = s.executable;
-  samples = samples_of (all_units s.executable);
+  samples = samples_of s k;
   raster = raster;
   is_default = true;
   before = k.screen;
@@ -71,14 +78,16 @@ clear_record raster k mask = ClearRecord (record { mask = mask; raster = raster;
 
 -- what a call on the fixed state, or one that clears or draws, records
 abbrev pub drawing_records : Sources → RasterWords → Contents → DrawDriver → List Record
+drawing_records s raster k (calls.ActiveTexture unit) = []
 drawing_records s raster k (calls.SetRaster number words) = []
 drawing_records s raster k (calls.Clear mask) = clear_record raster k mask ∷ []
 drawing_records s raster k (calls.DrawArrays mode first count black) = arrays_record s raster k mode first count ∷ []
 drawing_records s raster k (calls.DrawElements mode count kind offset black) = elements_record s raster k mode count kind offset ∷ []
 
--- what a driver call records; a call on objects, shaders and programs records nothing
+-- what a driver call records; a call on objects, images, shaders and programs records nothing yet
 abbrev pub call_records : DriverState → DriverCall → Answer → List Record
 call_records d (driver.Object call) answer = []
+call_records d (driver.Image call) answer = []
 call_records d (driver.Program call) answer = []
 call_records d (driver.Draw call) answer = drawing_records (sources_in d.tables) d.tables.raster d.contents call
 
@@ -89,6 +98,7 @@ if_drawn (Ok plan) x y = if plan.draw then x else y
 
 -- what a command on the fixed state, or one that clears or draws, leaves of the contents
 abbrev pub draw_contents : EsState → DrawCommand → Contents → Contents
+draw_contents s (ActiveTexture unit) k = k
 draw_contents s (Raster number words) k = k
 draw_contents s (Clear mask) k = if mask == 0 then k else cleared mask k
 draw_contents s (DrawArrays mode first count) k = if_drawn (check_arrays (sources_of s) mode first count) (drawn k) k
@@ -98,6 +108,7 @@ draw_contents s Finish k = k
 
 -- what it records
 abbrev pub draw_records : EsState → DrawCommand → Contents → List Record
+draw_records s (ActiveTexture unit) k = []
 draw_records s (Raster number words) k = []
 draw_records s (Clear mask) k = if mask == 0 then [] else clear_record s.raster k mask ∷ []
 draw_records s (DrawArrays mode first count) k = if_drawn (check_arrays (sources_of s) mode first count) (arrays_record (sources_of s) s.raster k mode first count ∷ []) []
@@ -105,12 +116,26 @@ draw_records s (DrawElements mode count kind offset) k = if_drawn (check_indexed
 draw_records s Flush k = []
 draw_records s Finish k = []
 
+-- where there was no room, the contents are as they were
+abbrev pub contents_stored : Contents → Contents → Stored → Contents
+contents_stored k new room.Done = new
+contents_stored k new room.Oom = k
+
+-- what a command on images leaves of the contents: an image without data is zero
+abbrev pub image_contents : EsState → ImageCommand → List ℕ → Oracle → Contents → Contents
+image_contents s (TexImage2D image words) payload o k =
+    contents_stored k (with_image k (place_bound s.textures.objects image.target (natural image.level)) (new_pixels Zero (unpadded_payload image s.alignments.unpack (payload_of words payload)) (view_of image))) (first o.stored)
+image_contents s (TexSubImage2D part words) payload o k =
+    with_pixels k (place_bound s.textures.objects part.target (natural part.level)) (part_rect part) (pixels_of (unpadded_part part s.alignments.unpack payload) (pixel_size part.format part.kind) (part_rect part))
+image_contents s (TexParameteri target pname value) payload o k = k
+
 -- what a command that is not refused leaves of the contents
 abbrev pub own_contents : EsState → Command → List ℕ → Oracle → Contents → Contents
 own_contents s Noop payload o k = k
 own_contents s (SetToken token) payload o k = k
 own_contents s (Bucket c) payload o k = k
 own_contents s (Object c) payload o k = k
+own_contents s (Image c) payload o k = image_contents s c payload o k
 own_contents s (Draw c) payload o k = draw_contents s c k
 own_contents s (Query c) payload o k = k
 
@@ -120,6 +145,7 @@ own_records s Noop payload o k = []
 own_records s (SetToken token) payload o k = []
 own_records s (Bucket c) payload o k = []
 own_records s (Object c) payload o k = []
+own_records s (Image c) payload o k = []
 own_records s (Draw c) payload o k = draw_records s c k
 own_records s (Query c) payload o k = []
 

@@ -8,6 +8,7 @@ use Rattle.gl_plain.specs.Errors.{no_errors}
 use Rattle.gl_plain.specs.subjects.Buffers.{BufferTables, no_buffers}
 use Rattle.gl_plain.specs.subjects.Attributes.{no_arrays}
 use Rattle.gl_plain.specs.subjects.Programs.{ProgramTables, no_programs}
+use Rattle.gl_plain.specs.subjects.Textures.{TextureTables, no_textures}
 use Rattle.gl_plain.specs.subjects.Buckets.{Buckets, empty_buckets}
 use Rattle.gl_plain.specs.declared.raster.RasterWords.{RasterWords}
 use Rattle.gl_plain.specs.declared.raster.Alignments.{Alignments}
@@ -23,6 +24,7 @@ Surface = ℕ × ℕ
 pub record EsState : Type 0 where
   pub surface : Surface
   pub buffers : BufferTables
+  pub textures : TextureTables
   pub attribs : VertexAttributes
   pub programs : ProgramTables
   pub raster : RasterWords
@@ -39,12 +41,14 @@ pub record WireState : Type 0 where
 -- the names that a driver ever gave, in each name space
 pub record NamesGiven : Type 0 where
   pub buffers : set.FinSet nat_cmp
+  pub textures : set.FinSet nat_cmp
   pub programs : set.FinSet nat_cmp
 
 -- the tables of a driver, which keeps no errors and no alignments
 pub record DriverTables : Type 0 where
   pub surface : Surface
   pub buffers : BufferTables
+  pub textures : TextureTables
   pub attribs : VertexAttributes
   pub programs : ProgramTables
   pub raster : RasterWords
@@ -60,6 +64,7 @@ abbrev pub opening : Surface → EsState
 opening surface = record {
   surface = surface;
   buffers = no_buffers;
+  textures = no_textures;
   attribs = no_arrays;
   programs = no_programs;
   raster = opening_raster surface.0 surface.1;
@@ -76,10 +81,11 @@ abbrev pub opening_tables : Surface → DriverTables
 opening_tables surface = record {
   surface = surface;
   buffers = no_buffers;
+  textures = no_textures;
   attribs = no_arrays;
   programs = no_programs;
   raster = opening_raster surface.0 surface.1;
-  given = record { buffers = set.empty; programs = set.empty };
+  given = record { buffers = set.empty; textures = set.empty; programs = set.empty };
 }
 
 -- the opening state of a driver
@@ -88,8 +94,8 @@ opening_driver surface = record { tables = opening_tables surface; contents = op
 
 -- what a draw reads of the state of OpenGL ES
 abbrev pub sources_of : EsState → Sources
-sources_of s = record { buffers = s.buffers.objects; element = s.buffers.element; attribs = s.attribs; executable = s.programs.installed }
+sources_of s = record { buffers = s.buffers.objects; element = s.buffers.element; textures = s.textures.objects; attribs = s.attribs; executable = s.programs.installed }
 
 -- what a draw reads of a driver's tables
 abbrev pub sources_in : DriverTables → Sources
-sources_in t = record { buffers = t.buffers.objects; element = t.buffers.element; attribs = t.attribs; executable = t.programs.installed }
+sources_in t = record { buffers = t.buffers.objects; element = t.buffers.element; textures = t.textures.objects; attribs = t.attribs; executable = t.programs.installed }

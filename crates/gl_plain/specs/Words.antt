@@ -5,6 +5,8 @@ use Rattle.gl_base.specs.declared.gl_enum.GlEnum.{GlEnum}
 use Rattle.gl_base.specs.declared.float_bits.FloatBits.{FloatBits}
 use Rattle.gl_plain.specs.declared.commands.DataWords.{DataWords}
 use Rattle.gl_plain.specs.declared.commands.ArrayWords.{ArrayWords}
+use Rattle.gl_plain.specs.declared.image_words.ImageWords.{ImageWords}
+use Rattle.gl_plain.specs.declared.image_words.PartWords.{PartWords}
 
 -- the number is below 0
 abbrev pub is_negative : ℤ → Bool
@@ -39,3 +41,11 @@ data_at words i = record { source = slice_index words i; count = slice_index wor
 -- the words of VertexAttribPointer behind its index
 abbrev pub array_at : List ℕ → ArrayWords
 array_at words = record { size = signed_at words 1; kind = enum_at words 2; normalized = bool_at words 3; stride = signed_at words 4; offset = slice_index words 5 }
+
+-- the words of TexImage2D before its data
+abbrev pub image_at : List ℕ → ImageWords
+image_at words = record { target = enum_at words 0; level = signed_at words 1; internal = enum_at words 2; width = signed_at words 3; height = signed_at words 4; border = signed_at words 5; format = enum_at words 6; kind = enum_at words 7 }
+
+-- the words of TexSubImage2D before its data
+abbrev pub part_at : List ℕ → PartWords
+part_at words = record { target = enum_at words 0; level = signed_at words 1; x = signed_at words 2; y = signed_at words 3; width = signed_at words 4; height = signed_at words 5; format = enum_at words 6; kind = enum_at words 7 }

@@ -4,3 +4,4 @@ pub mod Arguments
 pub mod Refusal
 pub mod Step
 pub mod Calls
+pub mod Covers

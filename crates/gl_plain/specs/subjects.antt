@@ -7,6 +7,10 @@ pub mod Links
 pub mod Programs
 pub mod Uniforms
 pub mod Buckets
+pub mod Levels
+pub mod Completeness
+pub mod Viewed
+pub mod Textures
 pub mod Images
 pub mod Raster
 pub mod Draws

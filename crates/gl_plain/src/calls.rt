@@ -1,6 +1,6 @@
 //! The calls of OpenGL ES, and their replies.
 
-use crate::{Bytes, Seq, Words};
+use crate::{Bytes, ImageWords, PartWords, Seq, Words};
 use gl_base::{FloatBits, GlEnum};
 
 /// The data that a call is given.
@@ -46,6 +46,16 @@ pub enum ObjectCall {
     },
     DeleteBuffers {
         buffers: Names,
+    },
+    GenTextures {
+        count: i32,
+    },
+    BindTexture {
+        target: GlEnum,
+        texture: u32,
+    },
+    DeleteTextures {
+        textures: Names,
     },
     VertexAttrib4f {
         index: u32,
@@ -118,9 +128,30 @@ pub enum ObjectCall {
     },
 }
 
-/// A call that clears, draws, or waits for what was drawn.
+/// A call on an image of a texture, or on a texture's parameters.
+#[derive(Debug, Drop)]
+pub enum ImageCall {
+    TexImage2D {
+        image: ImageWords,
+        data: Payload,
+    },
+    TexSubImage2D {
+        part: PartWords,
+        data: Payload,
+    },
+    TexParameteri {
+        target: GlEnum,
+        pname: GlEnum,
+        value: GlEnum,
+    },
+}
+
+/// A call that chooses the active unit, clears, draws, or waits for what was drawn.
 #[derive(Clone, Copy, Debug, PartialEq, Eq)]
 pub enum DrawCall {
+    ActiveTexture {
+        unit: GlEnum,
+    },
     Clear {
         mask: u32,
     },
@@ -149,6 +180,7 @@ pub enum QueryCall {
 #[derive(Debug, Drop)]
 pub enum Call {
     Object(ObjectCall),
+    Image(ImageCall),
     /// The calls that set the fixed state, from Enable to Viewport, by the number of their command.
     Raster { number: u32, words: Words },
     Draw(DrawCall),

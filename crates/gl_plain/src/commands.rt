@@ -1,19 +1,22 @@
 //! Commands: as they are read from the ring, and as their words spell them.
 ghost use Rattle.std.specs.Prelude.{◌≡◌, ◌≤◌, slice_index};
 ghost use Rattle.gl_plain.specs.object.Commands.{object_command_in, program_command_in};
+ghost use Rattle.gl_plain.specs.image.Commands.{image_command_in};
 ghost use Rattle.gl_plain.specs.draw.Commands.{draw_command_in};
 ghost use Rattle.gl_plain.specs.query.Commands.{query_command_in};
 ghost use Rattle.gl_plain.specs.Commands.{bucket_command_in, command_in, is_known};
 
-use crate::Bytes;
 use crate::numbers::{
-    ATTACH_SHADER, BIND_ATTRIB_LOCATION, BIND_BUFFER, BUFFER_DATA, BUFFER_SUB_DATA, CLEAR,
-    COMPILE_SHADER, CREATE_PROGRAM, CREATE_SHADER, DELETE_BUFFERS, DELETE_PROGRAM, DELETE_SHADER,
-    DETACH_SHADER, DISABLE_VERTEX_ATTRIB_ARRAY, DRAW_ARRAYS, DRAW_ELEMENTS, ENABLE,
-    ENABLE_VERTEX_ATTRIB_ARRAY, FINISH, FLUSH, GEN_BUFFERS, GET_BUCKET_DATA, GET_BUCKET_START,
-    GET_ERROR, LINK_PROGRAM, NOOP, SET_BUCKET_DATA, SET_BUCKET_SIZE, SET_TOKEN, SHADER_SOURCE,
-    UNIFORM, USE_PROGRAM, VALIDATE_PROGRAM, VERTEX_ATTRIB_4F, VERTEX_ATTRIB_POINTER, VIEWPORT,
+    ACTIVE_TEXTURE, ATTACH_SHADER, BIND_ATTRIB_LOCATION, BIND_BUFFER, BIND_TEXTURE, BUFFER_DATA,
+    BUFFER_SUB_DATA, CLEAR, COMPILE_SHADER, CREATE_PROGRAM, CREATE_SHADER, DELETE_BUFFERS,
+    DELETE_PROGRAM, DELETE_SHADER, DELETE_TEXTURES, DETACH_SHADER, DISABLE_VERTEX_ATTRIB_ARRAY,
+    DRAW_ARRAYS, DRAW_ELEMENTS, ENABLE, ENABLE_VERTEX_ATTRIB_ARRAY, FINISH, FLUSH, GEN_BUFFERS,
+    GEN_TEXTURES, GET_BUCKET_DATA, GET_BUCKET_START, GET_ERROR, LINK_PROGRAM, NOOP,
+    SET_BUCKET_DATA, SET_BUCKET_SIZE, SET_TOKEN, SHADER_SOURCE, TEX_IMAGE_2D, TEX_PARAMETERI,
+    TEX_SUB_IMAGE_2D, UNIFORM, USE_PROGRAM, VALIDATE_PROGRAM, VERTEX_ATTRIB_4F,
+    VERTEX_ATTRIB_POINTER, VIEWPORT,
 };
+use crate::{Bytes, ImageWords, PartWords};
 use arrayvec::ArrayVec;
 use gl_base::{FloatBits, GlEnum};
 
@@ -90,6 +93,18 @@ pub enum ObjectCommand {
     },
     /// DeleteBuffers, for one id.
     DeleteBuffers {
+        id: u32,
+    },
+    /// GenTextures, for the one id that the client gives.
+    GenTextures {
+        id: u32,
+    },
+    BindTexture {
+        target: GlEnum,
+        id: u32,
+    },
+    /// DeleteTextures, for one id.
+    DeleteTextures {
         id: u32,
     },
     VertexAttrib4f {
@@ -190,9 +205,30 @@ pub enum BucketCommand {
     },
 }
 
+/// A command on an image of a texture, or on a texture's parameters. Its data, if it has any, comes beside it.
+#[derive(Clone, Copy, Debug, PartialEq, Eq)]
+pub enum ImageCommand {
+    TexImage2D {
+        image: ImageWords,
+        words: DataWords,
+    },
+    TexSubImage2D {
+        part: PartWords,
+        words: DataWords,
+    },
+    TexParameteri {
+        target: GlEnum,
+        pname: GlEnum,
+        value: GlEnum,
+    },
+}
+
 /// A command on the fixed state, or one that clears or draws.
 #[derive(Clone, Copy, Debug, PartialEq, Eq)]
 pub enum DrawCommand {
+    ActiveTexture {
+        unit: GlEnum,
+    },
     /// The commands from Enable to Viewport: the number, and the words, of which those behind the last one count for nothing.
     Raster {
         number: u32,
@@ -230,6 +266,7 @@ pub enum Command {
     SetToken { token: u32 },
     Bucket(BucketCommand),
     Object(ObjectCommand),
+    Image(ImageCommand),
     Draw(DrawCommand),
     Query(QueryCommand),
 }
@@ -246,6 +283,28 @@ fn word(words: &[u32], at: usize) -> u32
 
 impl DataWords {
     ghost use Rattle.gl_plain.specs.Words.{data_at};
+    ghost use Rattle.gl_plain.specs.subjects.Data as d;
+
+    /// Whether they are those of no data.
+    pub fn has_no_data(self) -> bool
+        ensures { result ≡ d.has_no_data self }
+    {
+        self.source == 0 && self.count == 0 && self.a == 0 && self.b == 0
+    }
+
+    /// Whether they are those of as many bytes as are needed, in shared memory or in a bucket.
+    pub fn has_needed_data(self, needed: u32) -> bool
+        ensures { result ≡ d.has_needed_data self needed }
+    {
+        (self.source == 1 || self.source == 2) && self.count == needed
+    }
+
+    /// Whether they are those of as many bytes as are needed, or of no data where none are.
+    pub fn has_just_needed_data(self, needed: u32) -> bool
+        ensures { result ≡ d.has_just_needed_data self needed }
+    {
+        (self.has_no_data() && needed == 0) || self.has_needed_data(needed)
+    }
 
     /// The four words of data that begin at a place.
     fn read(words: &[u32], at: usize) -> DataWords
@@ -274,6 +333,46 @@ impl ArrayWords {
             normalized: word(words, 3) != 0,
             stride: word(words, 4).cast_signed(),
             offset: word(words, 5),
+        }
+    }
+}
+
+impl ImageWords {
+    ghost use Rattle.gl_plain.specs.Words.{image_at};
+
+    /// The words of TexImage2D.
+    fn read(words: &[u32]) -> ImageWords
+        ensures { result ≡ image_at words.now }
+    {
+        ImageWords {
+            target: GlEnum(word(words, 0)),
+            level: word(words, 1).cast_signed(),
+            internal: GlEnum(word(words, 2)),
+            width: word(words, 3).cast_signed(),
+            height: word(words, 4).cast_signed(),
+            border: word(words, 5).cast_signed(),
+            format: GlEnum(word(words, 6)),
+            kind: GlEnum(word(words, 7)),
+        }
+    }
+}
+
+impl PartWords {
+    ghost use Rattle.gl_plain.specs.Words.{part_at};
+
+    /// The words of TexSubImage2D.
+    fn read(words: &[u32]) -> PartWords
+        ensures { result ≡ part_at words.now }
+    {
+        PartWords {
+            target: GlEnum(word(words, 0)),
+            level: word(words, 1).cast_signed(),
+            x: word(words, 2).cast_signed(),
+            y: word(words, 3).cast_signed(),
+            width: word(words, 4).cast_signed(),
+            height: word(words, 5).cast_signed(),
+            format: GlEnum(word(words, 6)),
+            kind: GlEnum(word(words, 7)),
         }
     }
 }
@@ -383,6 +482,12 @@ fn object_command(number: u32, words: &[u32]) -> Option<ObjectCommand>
             words: DataWords::read(words, 3),
         }),
         DELETE_BUFFERS => Some(ObjectCommand::DeleteBuffers { id: word(words, 0) }),
+        GEN_TEXTURES => Some(ObjectCommand::GenTextures { id: word(words, 0) }),
+        BIND_TEXTURE => Some(ObjectCommand::BindTexture {
+            target: GlEnum(word(words, 0)),
+            id: word(words, 1),
+        }),
+        DELETE_TEXTURES => Some(ObjectCommand::DeleteTextures { id: word(words, 0) }),
         VERTEX_ATTRIB_4F => Some(ObjectCommand::VertexAttrib4f {
             index: word(words, 0),
             x: FloatBits(word(words, 1)),
@@ -404,11 +509,36 @@ fn object_command(number: u32, words: &[u32]) -> Option<ObjectCommand>
     }
 }
 
-/// The command on the fixed state, or the one that clears or draws, that a number and words spell, or none.
+/// The command on images that a number and words spell, or none.
+fn image_command(number: u32, words: &[u32]) -> Option<ImageCommand>
+    ensures { result ≡ image_command_in number words.now }
+{
+    match number {
+        TEX_IMAGE_2D => Some(ImageCommand::TexImage2D {
+            image: ImageWords::read(words),
+            words: DataWords::read(words, 8),
+        }),
+        TEX_SUB_IMAGE_2D => Some(ImageCommand::TexSubImage2D {
+            part: PartWords::read(words),
+            words: DataWords::read(words, 8),
+        }),
+        TEX_PARAMETERI => Some(ImageCommand::TexParameteri {
+            target: GlEnum(word(words, 0)),
+            pname: GlEnum(word(words, 1)),
+            value: GlEnum(word(words, 2)),
+        }),
+        _ => None,
+    }
+}
+
+/// ActiveTexture, the command on the fixed state, or the one that clears or draws, that a number and words spell, or none.
 fn draw_command(number: u32, words: &[u32]) -> Option<DrawCommand>
     ensures { result ≡ draw_command_in number words.now }
 {
     match number {
+        ACTIVE_TEXTURE => Some(DrawCommand::ActiveTexture {
+            unit: GlEnum(word(words, 0)),
+        }),
         ENABLE..=VIEWPORT => Some(DrawCommand::Raster {
             number,
             words: [
@@ -468,6 +598,9 @@ fn spelled(number: u32, words: &[u32]) -> Option<Command>
     if let Some(command) = object_command(number, words) {
         return Some(Command::Object(command));
     }
+    if let Some(command) = image_command(number, words) {
+        return Some(Command::Image(command));
+    }
     if let Some(command) = draw_command(number, words) {
         return Some(Command::Draw(command));
     }
@@ -500,6 +633,9 @@ impl ObjectCommand {
             ObjectCommand::GenBuffers { .. }
             | ObjectCommand::BindBuffer { .. }
             | ObjectCommand::DeleteBuffers { .. }
+            | ObjectCommand::GenTextures { .. }
+            | ObjectCommand::BindTexture { .. }
+            | ObjectCommand::DeleteTextures { .. }
             | ObjectCommand::VertexAttrib4f { .. }
             | ObjectCommand::VertexAttribPointer { .. }
             | ObjectCommand::EnableVertexAttribArray { .. }
@@ -514,6 +650,22 @@ impl ObjectCommand {
             | ObjectCommand::ValidateProgram { .. }
             | ObjectCommand::UseProgram { .. }
             | ObjectCommand::DeleteProgram { .. } => None,
+        }
+    }
+}
+
+impl ImageCommand {
+    ghost use Rattle.gl_plain.specs.image.Commands.{image_data_words};
+
+    /// The words of its data, if it has any.
+    pub fn data_words(self) -> Option<DataWords>
+        ensures { result ≡ image_data_words self }
+    {
+        match self {
+            ImageCommand::TexImage2D { words, .. } | ImageCommand::TexSubImage2D { words, .. } => {
+                Some(words)
+            }
+            ImageCommand::TexParameteri { .. } => None,
         }
     }
 }

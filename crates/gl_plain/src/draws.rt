@@ -1,4 +1,6 @@
 //! What the rules of draws look at (OpenGL ES 2.0.25, sections 2.8, 3.7 and 4.4).
+ghost use Rattle.std.specs.Prelude.{◌≡◌};
+ghost use Rattle.gl_plain.specs.subjects.Draws.{no_draw, samples_cube};
 
 use crate::ArraySpec;
 use gl_base::GlEnum;
@@ -33,6 +35,15 @@ pub struct UnitView {
     pub attached: bool,
 }
 
+impl UnitView {
+    /// Whether a unit that samplers name samples its cube map: where they name it as one alone.
+    pub fn samples_cube(self) -> bool
+        ensures { result ≡ samples_cube self }
+    {
+        self.cube && !self.flat
+    }
+}
+
 /// All that the rules of draws look at, but for the first element and the count.
 #[derive(Clone, Copy, Debug, PartialEq, Eq)]
 pub struct DrawView {
@@ -57,4 +68,16 @@ pub struct DrawPlan {
     pub draw: bool,
     /// A bit for each unit whose sampled texture is not complete, and reads as black.
     pub black: u8,
+}
+
+impl DrawPlan {
+    /// Nothing is drawn.
+    pub fn none() -> DrawPlan
+        ensures { result ≡ no_draw }
+    {
+        DrawPlan {
+            draw: false,
+            black: 0,
+        }
+    }
 }

@@ -2,8 +2,8 @@
 ghost use Rattle.std.specs.Prelude.{◌≡◌};
 ghost use Rattle.gl_plain.specs.Oracle.{no_answers};
 
-use crate::{Bytes, LinkAnswer, Seq, Words};
-use gl_base::GlEnum;
+use crate::{Bytes, ImagePlace, LinkAnswer, PartWords, Payload, Seq, Words};
+use gl_base::{GlEnum, Rect};
 use std::alloc::Global;
 
 /// A driver call on an object. Names are the driver's own.
@@ -27,6 +27,14 @@ pub enum ObjectDriver {
     DeleteBuffer {
         name: u64,
     },
+    GenTexture,
+    BindTexture {
+        target: GlEnum,
+        name: u64,
+    },
+    DeleteTexture {
+        name: u64,
+    },
     /// The constant value of a vertex attribute, as four float patterns.
     VertexAttrib4 {
         index: u32,
@@ -44,6 +52,36 @@ pub enum ObjectDriver {
     SetArray {
         index: u32,
         on: bool,
+    },
+}
+
+/// A driver call on an image of a texture, or on a texture's parameters.
+#[derive(Debug, Drop)]
+pub enum ImageDriver {
+    /// A new image for a level of what the target binds: its rows without padding, or none.
+    TexImage {
+        target: GlEnum,
+        level: i32,
+        format: GlEnum,
+        kind: GlEnum,
+        width: i32,
+        height: i32,
+        payload: Payload,
+    },
+    /// A rectangle of a level of what the target binds: its rows without padding.
+    TexSubImage {
+        part: PartWords,
+        bytes: Bytes,
+    },
+    /// A rectangle of an image that was not written becomes zero.
+    ZeroLevel {
+        place: ImagePlace,
+        rect: Rect,
+    },
+    TexParameter {
+        target: GlEnum,
+        pname: GlEnum,
+        value: GlEnum,
     },
 }
 
@@ -98,9 +136,13 @@ pub enum ProgramDriver {
     },
 }
 
-/// A driver call on the fixed state, or one that clears or draws.
+/// A driver call on the active unit or the fixed state, or one that clears or draws.
 #[derive(Debug, Drop)]
 pub enum DrawDriver {
+    /// The unit of this number, from 0, is the active one.
+    ActiveTexture {
+        unit: u32,
+    },
     /// The calls that set the fixed state, from Enable to Viewport, by the number of their command, with its words as they are kept.
     SetRaster {
         number: u32,
@@ -129,6 +171,7 @@ pub enum DrawDriver {
 #[derive(Debug, Drop)]
 pub enum DriverCall {
     Object(ObjectDriver),
+    Image(ImageDriver),
     Program(ProgramDriver),
     Draw(DrawDriver),
 }

@@ -95,6 +95,15 @@ impl<T: Drop> Seq<T> {
 }
 
 impl<T: Copy> Seq<T> {
+    /// Puts an item at a place. Behind the last nothing changes. It takes no memory.
+    pub fn set(&mut self, at: usize, item: T)
+        ensures { self.new ≡ slice_set self.old at item }
+    {
+        if let Some(place) = self.items.get_mut(at) {
+            *place = item;
+        }
+    }
+
     /// The list with the items of a slice.
     pub fn from_slice(alloc: Global, items: &[T]) -> Result<Seq<T>, AllocError>
         ensures { IfOk result (λ seq. seq ≡ items.now) }

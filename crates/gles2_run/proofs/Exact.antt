@@ -1,5 +1,5 @@
--- When each status comes, where the source tells what it has.
-use Rattle.std.proofs.Common.{rules, ◌≡◌, ℕ, ◌≤◌, List, [], Option, None, Some, Ok, Err, length-append, length, arith, ap}
+-- What each status says, and when it comes, where the source tells what it has.
+use Rattle.std.proofs.Common.{rules, ◌≡◌, ◌⊎◌, inl, inr, IsTrue, ℕ, ◌≤◌, List, [], Option, None, Some, Ok, Err, length-append, length, arith, ap}
 use Rattle.std.specs.Option.{unwrap_or}
 use Rattle.std.specs.Io.KnownBytes.{Consumes}
 use Rattle.gl_plain.specs.declared.commands.Stop.{Stop}
@@ -8,7 +8,8 @@ use Rattle.ring_script.specs.Script.{script_in}
 use Rattle.report_text.specs.declared.end.End.{End}
 use Rattle.report_text.specs.declared.end.End.TheVariants as ends
 use Rattle.gles2_run.specs.declared.desk.Desk.{Desk}
-use Rattle.gles2_run.specs.Ends.{INPUT_LIMIT, IsInput, IsToldRing, Means, Closes, UnlessCut, UnlessLost, ring_run}
+use Rattle.gles2_run.specs.Desks.{new_desk}
+use Rattle.gles2_run.specs.Ends.{INPUT_LIMIT, HasBadLine, IsInput, IsRing, IsToldRing, IsTooLong, Means, Closes, RanLost, RanShort, RanTo, UnlessCut, UnlessLost, is_run, ring_run}
 
 -- what was read whole is what the source told
 same_input : {ended : Type 0} (words : List (List ℕ)) (before now : Option (List ℕ)) (was is : ℕ) (told read : List ℕ) → IsToldRing words before was is told → IsInput before now ended read → read ≡ told
@@ -53,3 +54,82 @@ module _ (words : List (List ℕ)) (before now : Option (List ℕ)) (ended : Typ
   is_stopped (ends.Stopped at) script stop means closes text stopped = search rules
   is_stopped ends.Lost script stop means closes text stopped = search rules
   is_stopped ends.NoMemory script stop means closes text stopped = search rules
+
+-- what each status says
+module _ (words : List (List ℕ)) (before now : Option (List ℕ)) (ended : Type 0) (was is : ℕ) (desk : Desk) (status : ℕ) (held holds : Option (List ℕ)) (wrote writes : ℕ) where
+  -- the script was run
+  pub ran : (end : End) → Means end words before now ended was is desk → Closes end desk status held holds wrote writes → IsTrue (is_run status) → (stop : Option Stop) × RanTo before now ended stop desk
+  ran ends.Done means closes h = (None, means.1)
+  ran ends.Usage means closes h = search rules
+  ran ends.ReadFault means closes h = search rules
+  ran ends.TooLong means closes h = search rules
+  ran (ends.BadLine n) means closes h = search rules
+  ran (ends.Stopped at) means closes h = (Some at, means.1)
+  ran ends.Lost means closes h = search rules
+  ran ends.NoMemory means closes h = search rules
+
+  -- to its end
+  pub ran_to_end : (end : End) → Means end words before now ended was is desk → Closes end desk status held holds wrote writes → status ≡ 0 → IsRing words × RanTo before now ended None desk
+  ran_to_end ends.Done means closes h = means
+  ran_to_end ends.Usage means closes h = search rules
+  ran_to_end ends.ReadFault means closes h = search rules
+  ran_to_end ends.TooLong means closes h = search rules
+  ran_to_end (ends.BadLine n) means closes h = search rules
+  ran_to_end (ends.Stopped at) means closes h = search rules
+  ran_to_end ends.Lost means closes h = search rules
+  ran_to_end ends.NoMemory means closes h = search rules
+
+  -- a line is none
+  pub has_bad_line : (end : End) → Means end words before now ended was is desk → Closes end desk status held holds wrote writes → status ≡ 3 → IsRing words × ((number : ℕ) × HasBadLine before now ended number)
+  has_bad_line ends.Done means closes h = search rules
+  has_bad_line ends.Usage means closes h = search rules
+  has_bad_line ends.ReadFault means closes h = search rules
+  has_bad_line ends.TooLong means closes h = search rules
+  has_bad_line (ends.BadLine n) means closes h = (means.0, (n, means.1))
+  has_bad_line (ends.Stopped at) means closes h = search rules
+  has_bad_line ends.Lost means closes h = search rules
+  has_bad_line ends.NoMemory means closes h = search rules
+
+  -- to a malformed command
+  pub ran_to_stop : (end : End) → Means end words before now ended was is desk → Closes end desk status held holds wrote writes → status ≡ 6 → IsRing words × ((stop : Stop) × RanTo before now ended (Some stop) desk)
+  ran_to_stop ends.Done means closes h = search rules
+  ran_to_stop ends.Usage means closes h = search rules
+  ran_to_stop ends.ReadFault means closes h = search rules
+  ran_to_stop ends.TooLong means closes h = search rules
+  ran_to_stop (ends.BadLine n) means closes h = search rules
+  ran_to_stop (ends.Stopped at) means closes h = (means.0, (at, means.1))
+  ran_to_stop ends.Lost means closes h = search rules
+  ran_to_stop ends.NoMemory means closes h = search rules
+
+  -- to the loss of the driver
+  pub ran_to_loss : (end : End) → Means end words before now ended was is desk → Closes end desk status held holds wrote writes → status ≡ 8 → IsRing words × RanLost before now ended desk
+  ran_to_loss ends.Done means closes h = search rules
+  ran_to_loss ends.Usage means closes h = search rules
+  ran_to_loss ends.ReadFault means closes h = search rules
+  ran_to_loss ends.TooLong means closes h = search rules
+  ran_to_loss (ends.BadLine n) means closes h = search rules
+  ran_to_loss (ends.Stopped at) means closes h = search rules
+  ran_to_loss ends.Lost means closes h = means
+  ran_to_loss ends.NoMemory means closes h = search rules
+
+  -- to want of memory
+  pub ran_short : (end : End) → Means end words before now ended was is desk → Closes end desk status held holds wrote writes → status ≡ 7 → (desk ≡ new_desk) ⊎ RanShort before now ended desk ⊎ RanLost before now ended desk ⊎ ((stop : Option Stop) × RanTo before now ended stop desk)
+  ran_short ends.Done means closes h = inr (inr (inr (None, means.1)))
+  ran_short ends.Usage means closes h = inl means.3
+  ran_short ends.ReadFault means closes h = inl means.3
+  ran_short ends.TooLong means closes h = inl means.2
+  ran_short (ends.BadLine n) means closes h = inl means.2
+  ran_short (ends.Stopped at) means closes h = inr (inr (inr (Some at, means.1)))
+  ran_short ends.Lost means closes h = inr (inr (inl means.1))
+  ran_short ends.NoMemory means closes h = elim means.1 [ inl none ↦ inl none | inr front ↦ inr (inl front) ]
+
+  -- the input is too long
+  pub is_too_long : (end : End) → Means end words before now ended was is desk → Closes end desk status held holds wrote writes → status ≡ 9 → IsRing words × IsTooLong before now
+  is_too_long ends.Done means closes h = search rules
+  is_too_long ends.Usage means closes h = search rules
+  is_too_long ends.ReadFault means closes h = search rules
+  is_too_long ends.TooLong means closes h = (means.0, means.1)
+  is_too_long (ends.BadLine n) means closes h = search rules
+  is_too_long (ends.Stopped at) means closes h = search rules
+  is_too_long ends.Lost means closes h = search rules
+  is_too_long ends.NoMemory means closes h = search rules

@@ -51,7 +51,9 @@ fn execute(alloc: Global, script: Script, desk: &mut Desk) -> Result<(), Service
     drop(regions);
     drop(opening);
     drop(timed);
-    let mut service = Service::new(alloc, surface, entries);
+    let Ok(mut service) = Service::new(alloc, surface, entries) else {
+        return Err(ServiceStop::NoMemory);
+    };
     desk.driver.load(surface, answers);
     let taken = take_puts(&mut service, &mut memory, puts.as_slice(), desk);
     // The journal's clauses say what the driver answered, how many calls there are at most, and at which of them it was lost.

@@ -4,7 +4,7 @@ use Rattle.std.proofs.lemmas.List.{drop_more}
 use Rattle.report_text.specs.Lines.{spaced}
 use Rattle.report_text.specs.Values.{words, pattern_text}
 use Rattle.report_text.specs.declared.arguments.Argument.{Argument}
-use Rattle.report_text.specs.declared.arguments.Argument.TheVariants.{Number, Signed, Enum, Flag, Patterns, Data}
+use Rattle.report_text.specs.declared.arguments.Argument.TheVariants.{Number, Signed, Enum, Flag, Patterns, Data, Given}
 
 -- a word, and others behind it
 spaced-cons : (word : List ℕ) (rest : List (List ℕ)) → spaced (word ∷ rest) ≡ spaced (word ∷ []) ++ spaced rest
@@ -23,6 +23,7 @@ words-cons (Enum e) rest = spaced-cons _ (words rest)
 words-cons (Flag f) rest = spaced-cons _ (words rest)
 words-cons (Patterns ps) rest = spaced-append (map pattern_text ps.now) (words rest) ∙ ap (λ (ws : List (List ℕ)). spaced ws ++ spaced (words rest)) (sym (append-nil (map pattern_text ps.now)))
 words-cons (Data d) rest = spaced-cons _ (words rest)
+words-cons (Given p) rest = spaced-cons _ (words rest)
 
 -- the words of the arguments from a place on
 pub words-drop : (arguments : List Argument) (i : ℕ) (d : Argument) → i < length arguments

@@ -2,17 +2,19 @@
 use Rattle.std.specs.Prelude.{ℕ, Bool, if◌then◌else◌, List, [], ◌∷◌, ◌++◌, map, codes}
 use Rattle.std.specs.Fmt.{decimal, signed_decimal}
 use Rattle.gl_plain.specs.declared.driver_calls.ObjectDriver.{ObjectDriver}
-use Rattle.gl_plain.specs.declared.driver_calls.ObjectDriver.TheVariants.{GenBuffer, BindBuffer, BufferData, BufferSubData, DeleteBuffer, VertexAttrib4, VertexAttribPointer, SetArray}
+use Rattle.gl_plain.specs.declared.driver_calls.ObjectDriver.TheVariants.{GenBuffer, BindBuffer, BufferData, BufferSubData, DeleteBuffer, GenTexture, BindTexture, DeleteTexture, VertexAttrib4, VertexAttribPointer, SetArray}
 use Rattle.gl_plain.specs.declared.driver_calls.DriverCall.{DriverCall}
-use Rattle.gl_plain.specs.declared.driver_calls.DriverCall.TheVariants.{Object, Program, Draw}
+use Rattle.gl_plain.specs.declared.driver_calls.DriverCall.TheVariants.{Object, Image, Program, Draw}
+use Rattle.gl_plain.specs.declared.driver_calls.ImageDriver.{ImageDriver}
+use Rattle.gl_plain.specs.declared.driver_calls.ImageDriver.TheVariants.{TexImage, TexSubImage, ZeroLevel, TexParameter}
 use Rattle.gl_plain.specs.declared.driver_calls.DrawDriver.{DrawDriver}
-use Rattle.gl_plain.specs.declared.driver_calls.DrawDriver.TheVariants.{SetRaster, Clear, DrawArrays, DrawElements}
+use Rattle.gl_plain.specs.declared.driver_calls.DrawDriver.TheVariants.{ActiveTexture, SetRaster, Clear, DrawArrays, DrawElements}
 use Rattle.gl_plain.specs.declared.driver_calls.ProgramDriver.{ProgramDriver}
 use Rattle.gl_plain.specs.declared.driver_calls.ProgramDriver.TheVariants.{CreateShader, CreateProgram, DeleteShader, DeleteProgram, ShaderSource, CompileShader, AttachShader, DetachShader, BindAttribLocation, LinkProgram, ValidateProgram, UseProgram, Uniform}
 use Rattle.gl_plain.specs.declared.driver_calls.Answer.{Answer}
 use Rattle.gl_plain.specs.declared.driver_calls.Answer.TheVariants.{Done, Name, Oom, Compile, Link, Validate}
 use Rattle.report_text.specs.Lines.{spaced}
-use Rattle.report_text.specs.Values.{enum_text, pattern_text, flag_text, bytes_text}
+use Rattle.report_text.specs.Values.{enum_text, pattern_text, flag_text, bytes_text, payload_text}
 
 -- a call on an object is its name and its arguments
 unfoldable pub object_text : ObjectDriver → List ℕ
@@ -22,10 +24,24 @@ object_text (BufferData target bytes usage) = codes "buffer_data" ++ spaced (enu
 object_text (BufferSubData target offset bytes) =
     codes "buffer_sub_data" ++ spaced (enum_text target.0 ∷ signed_decimal offset ∷ bytes_text bytes ∷ [])
 object_text (DeleteBuffer name) = codes "delete_buffer" ++ spaced (decimal name ∷ [])
+object_text GenTexture = codes "gen_texture"
+object_text (BindTexture target name) = codes "bind_texture" ++ spaced (enum_text target.0 ∷ decimal name ∷ [])
+object_text (DeleteTexture name) = codes "delete_texture" ++ spaced (decimal name ∷ [])
 object_text (VertexAttrib4 index values) = codes "vertex_attrib_4" ++ spaced (decimal index ∷ map pattern_text values)
 object_text (VertexAttribPointer index size kind normalized stride offset) =
     codes "vertex_attrib_pointer" ++ spaced (decimal index ∷ signed_decimal size ∷ enum_text kind.0 ∷ flag_text normalized ∷ signed_decimal stride ∷ decimal offset ∷ [])
 object_text (SetArray index on) = codes "set_array" ++ spaced (decimal index ∷ flag_text on ∷ [])
+
+-- a call on an image is its name and its arguments
+unfoldable pub image_text : ImageDriver → List ℕ
+image_text (TexImage target level format kind width height payload) =
+    codes "tex_image" ++ spaced (enum_text target.0 ∷ signed_decimal level ∷ enum_text format.0 ∷ enum_text kind.0 ∷ signed_decimal width ∷ signed_decimal height ∷ payload_text payload ∷ [])
+image_text (TexSubImage part bytes) =
+    codes "tex_sub_image" ++ spaced (enum_text part.target.0 ∷ signed_decimal part.level ∷ signed_decimal part.x ∷ signed_decimal part.y ∷ signed_decimal part.width ∷ signed_decimal part.height
+    ∷ enum_text part.format.0 ∷ enum_text part.kind.0 ∷ bytes_text bytes ∷ [])
+image_text (ZeroLevel place rect) =
+    codes "zero_level" ++ spaced (decimal place.texture ∷ enum_text place.face.0 ∷ decimal place.level ∷ decimal rect.x ∷ decimal rect.y ∷ decimal rect.width ∷ decimal rect.height ∷ [])
+image_text (TexParameter target pname value) = codes "tex_parameter" ++ spaced (enum_text target.0 ∷ enum_text pname.0 ∷ enum_text value.0 ∷ [])
 
 -- a call on a shader or a program is its name and its arguments
 unfoldable pub program_text : ProgramDriver → List ℕ
@@ -43,8 +59,9 @@ program_text (ValidateProgram name) = codes "validate_program" ++ spaced (decima
 program_text (UseProgram name) = codes "use_program" ++ spaced (decimal name ∷ [])
 program_text (Uniform location kind count bytes) = codes "uniform" ++ spaced (signed_decimal location ∷ decimal kind ∷ signed_decimal count ∷ bytes_text bytes ∷ [])
 
--- a call on the fixed state, or one that clears or draws, is its name and its arguments; words of the fixed state are printed as float patterns are
+-- a call on the active unit or the fixed state, or one that clears or draws, is its name and its arguments; words of the fixed state are printed as float patterns are
 unfoldable pub drawing_text : DrawDriver → List ℕ
+drawing_text (ActiveTexture unit) = codes "active_texture" ++ spaced (decimal unit ∷ [])
 drawing_text (SetRaster number words) = codes "set_raster" ++ spaced (decimal number ∷ map pattern_text words)
 drawing_text (Clear mask) = codes "clear" ++ spaced (decimal mask ∷ [])
 drawing_text (DrawArrays mode first count black) = codes "draw_arrays" ++ spaced (enum_text mode.0 ∷ signed_decimal first ∷ signed_decimal count ∷ decimal black ∷ [])
@@ -54,6 +71,7 @@ drawing_text (DrawElements mode count kind offset black) =
 -- a call is printed as those of its kind are
 unfoldable pub call_text : DriverCall → List ℕ
 call_text (Object call) = object_text call
+call_text (Image call) = image_text call
 call_text (Program call) = program_text call
 call_text (Draw call) = drawing_text call
 

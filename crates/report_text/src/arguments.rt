@@ -17,4 +17,6 @@ pub enum Argument<'a> {
     Patterns(&'a [u32]),
     /// How many bytes there are, and the first of them.
     Data(&'a [u8]),
+    /// The same of data that may be absent.
+    Given(Option<&'a [u8]>),
 }

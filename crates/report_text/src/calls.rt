@@ -2,24 +2,15 @@
 ghost use Rattle.std.specs.Prelude.{◌≡◌, ◌++◌, OnOk};
 ghost use Rattle.gl_plain.specs.declared.driver_calls.DrawDriver.TheVariants.{DrawArrays, DrawElements};
 ghost use Rattle.report_text.specs.Calls.{answer_text, call_text, drawing_text, object_text, outcome_text, program_text};
-ghost use Rattle.report_text.specs.Lines.{spaced};
-ghost use Rattle.report_text.specs.Values.{words};
 
 use crate::arguments::Argument;
+use crate::image_calls::write_image;
 use crate::values::write_number;
-use crate::words::write_words;
+use crate::words::write_named;
 use Argument::{Data, Enum, Flag, Number, Patterns, Signed};
 use gl_base::GlEnum;
 use gl_plain::{Answer, DrawDriver, DriverCall, ObjectDriver, ProgramDriver};
 use std::alloc::AllocError;
-
-/// Writes the name of a call and its arguments.
-fn write_named(line: &mut Vec<u8>, name: &str, arguments: &[Argument]) -> Result<(), AllocError>
-    ensures { OnOk result (line.new.items ≡ line.old.items ++ (name.now ++ spaced (words arguments.now))) }
-{
-    line.extend_from_slice(name.as_bytes())?;
-    write_words(line, arguments)
-}
 
 #[tactic(auto, unfolding(crate::specs::Calls::object_text))]
 fn write_object(line: &mut Vec<u8>, call: &ObjectDriver) -> Result<(), AllocError>
@@ -50,6 +41,13 @@ fn write_object(line: &mut Vec<u8>, call: &ObjectDriver) -> Result<(), AllocErro
         ),
         ObjectDriver::DeleteBuffer { name } => {
             write_named(line, "delete_buffer", &[Number(*name)])
+        }
+        ObjectDriver::GenTexture => write_named(line, "gen_texture", &[]),
+        ObjectDriver::BindTexture { target, name } => {
+            write_named(line, "bind_texture", &[Enum(*target), Number(*name)])
+        }
+        ObjectDriver::DeleteTexture { name } => {
+            write_named(line, "delete_texture", &[Number(*name)])
         }
         ObjectDriver::VertexAttrib4 { index, values } => write_named(
             line,
@@ -201,6 +199,9 @@ fn write_drawing(line: &mut Vec<u8>, call: &DrawDriver) -> Result<(), AllocError
     ensures { OnOk result (line.new.items ≡ line.old.items ++ drawing_text call.now) }
 {
     match call {
+        DrawDriver::ActiveTexture { unit } => {
+            write_named(line, "active_texture", &[Number(u64::from(*unit))])
+        }
         DrawDriver::SetRaster { number, words } => write_named(
             line,
             "set_raster",
@@ -230,6 +231,7 @@ pub fn write_call(line: &mut Vec<u8>, call: &DriverCall) -> Result<(), AllocErro
 {
     match call {
         DriverCall::Object(call) => write_object(line, call),
+        DriverCall::Image(call) => write_image(line, call),
         DriverCall::Program(call) => write_program(line, call),
         DriverCall::Draw(call) => write_drawing(line, call),
     }

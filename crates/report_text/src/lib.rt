@@ -4,6 +4,7 @@
 mod arguments;
 mod calls;
 mod end;
+mod image_calls;
 mod journal;
 mod replies;
 pub mod statuses;

@@ -1,10 +1,11 @@
 //! Lines of each kind. The other rows are shown by whole runs.
 use super::*;
-use gl_base::GlEnum;
 use gl_base::enums::{ARRAY_BUFFER, INVALID_VALUE, STATIC_DRAW, UNSIGNED_BYTE};
+use gl_base::texture_enums::{RGBA, TEXTURE_2D};
+use gl_base::{GlEnum, Rect};
 use gl_plain::{
-    Answer, AttributeList, Bytes, DrawDriver, DriverCall, DriverEntry, LinkAnswer, Names,
-    ObjectDriver, ProgramDriver, Reply, UniformList, Words,
+    Answer, AttributeList, Bytes, DrawDriver, DriverCall, DriverEntry, ImageDriver, ImagePlace,
+    LinkAnswer, Names, ObjectDriver, Payload, ProgramDriver, Reply, UniformList, Words,
 };
 use std::alloc::{AllocError, Global};
 use std::process::Abort;
@@ -119,6 +120,70 @@ fn calls_that_set_and_draw_have_lines(rt: HostRuntime) -> Result<(), Fail> {
     };
     let line = journal_line(alloc, 6, &draw)?;
     check_line(&rt, line, "driver 6 draw_elements 0x0004 3 0x1401 7 128\n");
+    Ok(())
+}
+
+fn image_line(
+    alloc: Global,
+    number: u64,
+    call: ImageDriver,
+    answer: Answer,
+) -> Result<Bytes, AllocError> {
+    let entry = DriverEntry {
+        call: DriverCall::Image(call),
+        answer,
+    };
+    journal_line(alloc, number, &entry)
+}
+
+#[test]
+fn calls_on_images_have_lines(rt: HostRuntime) -> Result<(), Fail> {
+    let alloc = rt.alloc();
+    let image = ImageDriver::TexImage {
+        target: TEXTURE_2D,
+        level: 0,
+        format: RGBA,
+        kind: UNSIGNED_BYTE,
+        width: 1,
+        height: 1,
+        payload: Payload::Here(Bytes::from_slice(alloc, &[1, 2, 3, 4])?),
+    };
+    let line = image_line(alloc, 2, image, Answer::Done)?;
+    check_line(
+        &rt,
+        line,
+        "driver 2 tex_image 0x0DE1 0 0x1908 0x1401 1 1 4:01020304\n",
+    );
+    let without_room = ImageDriver::TexImage {
+        target: TEXTURE_2D,
+        level: 11,
+        format: RGBA,
+        kind: UNSIGNED_BYTE,
+        width: 0,
+        height: 2048,
+        payload: Payload::Absent,
+    };
+    let line = image_line(alloc, 3, without_room, Answer::Oom)?;
+    check_line(
+        &rt,
+        line,
+        "driver 3 tex_image 0x0DE1 11 0x1908 0x1401 0 2048 none -> oom\n",
+    );
+    let zeroing = ImageDriver::ZeroLevel {
+        place: ImagePlace {
+            texture: 1,
+            face: TEXTURE_2D,
+            level: 0,
+        },
+        rect: Rect {
+            x: 0,
+            y: 0,
+            width: 2,
+            height: 2,
+        },
+    };
+    let line = image_line(alloc, 13, zeroing, Answer::Done)?;
+    check_line(&rt, line, "driver 13 zero_level 1 0x0DE1 0 0 0 2 2\n");
     Ok(())
 }
 

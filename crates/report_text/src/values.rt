@@ -3,7 +3,7 @@ ghost use Rattle.std.specs.Prelude.{◌≡◌, ◌++◌, ◌≤◌, ◌<◌, OnO
 ghost use Rattle.gl_plain.specs.Fields.{digit_zero};
 ghost use Rattle.std.specs.Fmt.{decimal, digit_glyph, signed_decimal};
 ghost use Rattle.hex.specs.Hex.{encode_lower};
-ghost use Rattle.report_text.specs.Values.{bytes_text, shown_bytes, upper_hex};
+ghost use Rattle.report_text.specs.Values.{bytes_text, given_text, shown_bytes, upper_hex};
 
 use itoa::Buffer;
 use std::alloc::AllocError;
@@ -107,4 +107,15 @@ pub fn write_bytes(line: &mut Vec<u8>, bytes: &[u8]) -> Result<(), AllocError>
     write_number(line, bytes.len() as u64)?;
     line.extend_from_slice(b":")?;
     write_shown(line, bytes)
+}
+
+/// Writes bytes that are given, or that none are.
+#[tactic(auto, unfolding(crate::specs::Values::given_text))]
+pub fn write_given(line: &mut Vec<u8>, bytes: Option<&[u8]>) -> Result<(), AllocError>
+    ensures { OnOk result (line.new.items ≡ line.old.items ++ given_text bytes.entry) }
+{
+    match bytes {
+        Some(bytes) => write_bytes(line, bytes),
+        None => line.extend_from_slice(b"none"),
+    }
 }

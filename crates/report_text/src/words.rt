@@ -5,7 +5,7 @@ ghost use Rattle.report_text.specs.Lines.{spaced};
 ghost use Rattle.report_text.specs.Values.{pattern_text, words};
 
 use crate::arguments::Argument;
-use crate::values::{write_bytes, write_hex, write_number, write_signed};
+use crate::values::{write_bytes, write_given, write_hex, write_number, write_signed};
 use std::alloc::AllocError;
 
 /// How many digits an enum has at least.
@@ -64,15 +64,27 @@ fn write_argument(line: &mut Vec<u8>, argument: &Argument) -> Result<(), AllocEr
             write_space(line)?;
             write_bytes(line, bytes)
         }
+        Argument::Given(bytes) => {
+            write_space(line)?;
+            write_given(line, *bytes)
+        }
     }
 }
 
 /// Writes the words of some arguments.
-pub fn write_words(line: &mut Vec<u8>, arguments: &[Argument]) -> Result<(), AllocError>
+fn write_words(line: &mut Vec<u8>, arguments: &[Argument]) -> Result<(), AllocError>
     ensures { OnOk result (line.new.items ≡ line.old.items ++ spaced (words arguments.now)) }
 {
     for argument in arguments {
         write_argument(line, argument)?;
     }
     Ok(())
+}
+
+/// Writes the name of a call and its arguments.
+pub fn write_named(line: &mut Vec<u8>, name: &str, arguments: &[Argument]) -> Result<(), AllocError>
+    ensures { OnOk result (line.new.items ≡ line.old.items ++ (name.now ++ spaced (words arguments.now))) }
+{
+    line.extend_from_slice(name.as_bytes())?;
+    write_words(line, arguments)
 }

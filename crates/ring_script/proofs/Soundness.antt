@@ -1,5 +1,5 @@
 -- A line that may stand after those before it leaves what they say a whole script within the limits.
-use Rattle.std.proofs.Common.{◌≡◌, ℕ, ◌+◌, ◌*◌, ◌≤◌, Bool, true, false, List, [], ◌∷◌, ◌++◌, length, refl, ap, arith, Option, None, Some, ◌==◌, ◌&&◌, if◌then◌else◌, subst, nat_le, eqb, is_none, not}
+use Rattle.std.proofs.Common.{◌≡◌, ℕ, ◌+◌, ◌*◌, ◌≤◌, Bool, true, false, List, [], ◌∷◌, ◌++◌, length, refl, ap, arith, Option, None, Some, ◌==◌, ◌&&◌, if◌then◌else◌, subst, nat_le, eqb, is_none}
 use Rattle.std.proofs.lemmas.Bool.{leb-true}
 use Rattle.std.proofs.lemmas.Grind.{common_steps}
 use Rattle.std.proofs.lemmas.List.Sums.{sum_by_push}

@@ -8,10 +8,11 @@ use Rattle.gl_plain.specs.declared.driver_calls.DriverEntry.{DriverEntry}
 use Rattle.gl_plain.specs.declared.driver_calls.Answer.{Answer}
 use Rattle.gl_plain.specs.declared.driver_calls.Answers.{Answers}
 use Rattle.gl_plain.specs.declared.driver_calls.DriverCall.{DriverCall}
-use Rattle.gl_plain.specs.declared.driver_calls.DriverCall.TheVariants.{Object, Program, Draw}
+use Rattle.gl_plain.specs.declared.driver_calls.DriverCall.TheVariants.{Object, Image, Program, Draw}
 use Rattle.gl_plain.specs.declared.driver_calls.DrawDriver.{DrawDriver}
 use Rattle.gl_plain.specs.declared.driver_calls.DrawDriver.TheVariants.{SetRaster}
-use Rattle.gl_plain.specs.declared.driver_calls.ObjectDriver.TheVariants.{GenBuffer, BufferData}
+use Rattle.gl_plain.specs.declared.driver_calls.ObjectDriver.TheVariants.{GenBuffer, BufferData, GenTexture}
+use Rattle.gl_plain.specs.declared.driver_calls.ImageDriver.TheVariants.{TexImage}
 use Rattle.gl_plain.specs.declared.driver_calls.ProgramDriver.TheVariants.{CreateShader, CreateProgram, CompileShader, LinkProgram, ValidateProgram}
 use Rattle.gl_plain.specs.declared.driver_calls.Stored.{Stored}
 use Rattle.gl_plain.specs.declared.driver_calls.Stored.TheVariants as room
@@ -19,7 +20,7 @@ use Rattle.gl_plain.specs.CommonLines.{are_sound_answers}
 use Rattle.gl_plain.specs.State.{DriverTables, DriverState, opening_driver, opening_tables}
 use Rattle.gl_plain.specs.driver.Answers.{IsAnswer, IsDrawingAnswer, IsStored, drawing_answer, answer_to, behind_call, behind_entries, stored_answer, told}
 use Rattle.gl_plain.specs.driver.Allowed.{IsAllowed}
-use Rattle.gl_plain.specs.driver.Effect.{after_buffer_data, after_drawing, tables_after}
+use Rattle.gl_plain.specs.driver.Effect.{after_buffer_data, after_tex_image, after_drawing, tables_after}
 use Rattle.gl_plain.specs.Journal.{IsLegalEntry, state_after}
 use Rattle.gl_plain.specs.Oracle.{Oracle, first, answers_of, stored_at, compile_in, link_in, validate_in}
 use Rattle.gl_plain.proofs.Journals.{state_after-append, IsLegal-append}
@@ -48,7 +49,10 @@ is_drawing_answer call = tt
 pub next_fits : (d : DriverState) (loaded : Answers) (n : Counts) (call : DriverCall) → IsTrue (are_sound_answers loaded) → d.tables.given ≡ given_by n → IsAnswer d call (answer_to (answers_from loaded n) call)
 next_fits d loaded n (Object GenBuffer) sound is = rw is (next_is_fresh n.buffers (n.buffers + 1 + 0) (omega arith))
 next_fits d loaded n (Object (BufferData target bytes usage)) sound is = is_stored (stored_at loaded.oom (n.stores + 0))
+next_fits d loaded n (Object GenTexture) sound is = rw is (next_is_fresh n.textures (n.textures + 1 + 0) (omega arith))
 next_fits d loaded n (Object call) sound is = tt
+next_fits d loaded n (Image (TexImage target level format kind width height payload)) sound is = is_stored (stored_at loaded.oom (n.stores + 0))
+next_fits d loaded n (Image call) sound is = tt
 next_fits d loaded n (Program (CreateShader kind)) sound is = rw is (next_is_fresh n.programs (n.programs + 1 + 0) (omega arith))
 next_fits d loaded n (Program CreateProgram) sound is = rw is (next_is_fresh n.programs (n.programs + 1 + 0) (omega arith))
 next_fits d loaded n (Program (CompileShader name)) sound is = compile_sound loaded sound (n.compiles + 0)
@@ -59,60 +63,73 @@ next_fits d loaded n (Draw call) sound is = is_drawing_answer call
 
 module _ (t : DriverTables) (loaded : Answers) (n n2 : Counts) (is : t.given ≡ given_by n) where
   -- so many names of each kind were given
-  given_as : (buffers programs : ℕ) → n2.buffers ≡ buffers → n2.programs ≡ programs → record { buffers = up_to buffers; programs = up_to programs } ≡ given_by n2
-  given_as buffers programs b p = λ i. record { buffers = up_to (sym b i); programs = up_to (sym p i) }
+  abbrev AreGiven : ℕ → ℕ → ℕ → Type 0
+  AreGiven buffers textures programs = (n2.buffers ≡ buffers) × (n2.textures ≡ textures) × (n2.programs ≡ programs)
+
+  given_as : (buffers textures programs : ℕ) → AreGiven buffers textures programs → record { buffers = up_to buffers; textures = up_to textures; programs = up_to programs } ≡ given_by n2
+  given_as buffers textures programs now = λ i. record { buffers = up_to (sym now.0 i); textures = up_to (sym now.1 i); programs = up_to (sym now.2 i) }
 
   stored_gives : (target : _) (bytes : List ℕ) (usage : _) (s : Stored) → (after_buffer_data t target bytes usage (stored_answer s)).given ≡ t.given
   stored_gives target bytes usage room.Done = refl
   stored_gives target bytes usage room.Oom = refl
 
+  image_gives : (target : _) (level : _) (v : _) (s : Stored) → (after_tex_image t target level v (stored_answer s)).given ≡ t.given
+  image_gives target level v room.Done = refl
+  image_gives target level v room.Oom = refl
+
   drawing_gives : (call : DrawDriver) → (after_drawing t call).given ≡ t.given
   drawing_gives (SetRaster number words) = refl
   drawing_gives call = refl
 
-  one_more_buffer : n2.buffers ≡ n.buffers + 1 → n2.programs ≡ n.programs → record t.given { buffers = set.insert t.given.buffers (n.buffers + 1 + 0) } ≡ given_by n2
-  one_more_buffer b p =
+  one_more_buffer : AreGiven (n.buffers + 1) n.textures n.programs → record t.given { buffers = set.insert t.given.buffers (n.buffers + 1 + 0) } ≡ given_by n2
+  one_more_buffer now =
       (λ i. record (is i) { buffers = set.insert (is i).buffers (add-zero (n.buffers + 1) i) })
-      ∙ (λ i. record { buffers = sym (up_to_next n.buffers) i; programs = up_to n.programs }) ∙ given_as (n.buffers + 1) n.programs b p
+      ∙ (λ i. record (given_by n) { buffers = sym (up_to_next n.buffers) i }) ∙ given_as (n.buffers + 1) n.textures n.programs now
 
-  one_more_program : n2.buffers ≡ n.buffers → n2.programs ≡ n.programs + 1 → record t.given { programs = set.insert t.given.programs (n.programs + 1 + 0) } ≡ given_by n2
-  one_more_program b p =
+  one_more_texture : AreGiven n.buffers (n.textures + 1) n.programs → record t.given { textures = set.insert t.given.textures (n.textures + 1 + 0) } ≡ given_by n2
+  one_more_texture now =
+      (λ i. record (is i) { textures = set.insert (is i).textures (add-zero (n.textures + 1) i) })
+      ∙ (λ i. record (given_by n) { textures = sym (up_to_next n.textures) i }) ∙ given_as n.buffers (n.textures + 1) n.programs now
+
+  one_more_program : AreGiven n.buffers n.textures (n.programs + 1) → record t.given { programs = set.insert t.given.programs (n.programs + 1 + 0) } ≡ given_by n2
+  one_more_program now =
       (λ i. record (is i) { programs = set.insert (is i).programs (add-zero (n.programs + 1) i) })
-      ∙ (λ i. record { buffers = up_to n.buffers; programs = sym (up_to_next n.programs) i }) ∙ given_as n.buffers (n.programs + 1) b p
+      ∙ (λ i. record (given_by n) { programs = sym (up_to_next n.programs) i }) ∙ given_as n.buffers n.textures (n.programs + 1) now
 
-  none_more : n2.buffers ≡ n.buffers → n2.programs ≡ n.programs → t.given ≡ given_by n2
-  none_more b p = is ∙ given_as n.buffers n.programs b p
+  none_more : AreGiven n.buffers n.textures n.programs → t.given ≡ given_by n2
+  none_more now = is ∙ given_as n.buffers n.textures n.programs now
 
-  -- what the two counts are, by the answers that are left
-  counts_are : (b p : ℕ) (o : Oracle) → answers_from loaded n2 ≡ o → o.buffers 0 ≡ b + 1 → o.programs 0 ≡ p + 1 → (n2.buffers ≡ b) × (n2.programs ≡ p)
-  counts_are b p o counted buffers programs =
+  -- what the counts of names are, by the answers that are left
+  counts_are : (b x p : ℕ) (o : Oracle) → answers_from loaded n2 ≡ o → o.buffers 0 ≡ b + 1 → o.textures 0 ≡ x + 1 → o.programs 0 ≡ p + 1 → AreGiven b x p
+  counts_are b x p o counted buffers textures programs =
       let nb : n2.buffers + 1 + 0 ≡ o.buffers 0 = ap (λ (o : Oracle). o.buffers 0) counted in
+      let nx : n2.textures + 1 + 0 ≡ o.textures 0 = ap (λ (o : Oracle). o.textures 0) counted in
       let np : n2.programs + 1 + 0 ≡ o.programs 0 = ap (λ (o : Oracle). o.programs 0) counted in
-      (omega arith, omega arith)
+      (omega arith, omega arith, omega arith)
+
+  -- a call that gives no name leaves the counts as they are
+  no_name : (o : Oracle) → answers_from loaded n2 ≡ o → o.buffers 0 ≡ n.buffers + 1 + 0 → o.textures 0 ≡ n.textures + 1 + 0 → o.programs 0 ≡ n.programs + 1 + 0 → AreGiven n.buffers n.textures n.programs
+  no_name o counted buffers textures programs = counts_are n.buffers n.textures n.programs o counted (omega arith) (omega arith) (omega arith)
 
   -- as many names were given as are counted
   pub given_more : (call : DriverCall) → answers_from loaded n2 ≡ behind_call call (answers_from loaded n) → (tables_after t call (answer_to (answers_from loaded n) call)).given ≡ given_by n2
   given_more (Object GenBuffer) counted =
-      let now = counts_are (n.buffers + 1) n.programs (behind_call (Object GenBuffer) (answers_from loaded n)) counted (omega arith) (omega arith) in
-      one_more_buffer now.0 now.1
+      one_more_buffer (counts_are (n.buffers + 1) n.textures n.programs (behind_call (Object GenBuffer) (answers_from loaded n)) counted (omega arith) (omega arith) (omega arith))
   given_more (Object (BufferData target bytes usage)) counted =
-      let now = counts_are n.buffers n.programs (behind_call (Object (BufferData target bytes usage)) (answers_from loaded n)) counted (omega arith) (omega arith) in
-      stored_gives target bytes usage (stored_at loaded.oom (n.stores + 0)) ∙ none_more now.0 now.1
-  given_more (Object call) counted =
-      let now = counts_are n.buffers n.programs (behind_call (Object call) (answers_from loaded n)) counted (omega arith) (omega arith) in
-      none_more now.0 now.1
+      stored_gives target bytes usage (stored_at loaded.oom (n.stores + 0)) ∙ none_more (no_name (behind_call (Object (BufferData target bytes usage)) (answers_from loaded n)) counted refl refl refl)
+  given_more (Object GenTexture) counted =
+      one_more_texture (counts_are n.buffers (n.textures + 1) n.programs (behind_call (Object GenTexture) (answers_from loaded n)) counted (omega arith) (omega arith) (omega arith))
+  given_more (Object call) counted = none_more (no_name (behind_call (Object call) (answers_from loaded n)) counted refl refl refl)
+  given_more (Image (TexImage target level format kind width height payload)) counted =
+      image_gives target level _ (stored_at loaded.oom (n.stores + 0))
+      ∙ none_more (no_name (behind_call (Image (TexImage target level format kind width height payload)) (answers_from loaded n)) counted refl refl refl)
+  given_more (Image call) counted = none_more (no_name (behind_call (Image call) (answers_from loaded n)) counted refl refl refl)
   given_more (Program (CreateShader kind)) counted =
-      let now = counts_are n.buffers (n.programs + 1) (behind_call (Program (CreateShader kind)) (answers_from loaded n)) counted (omega arith) (omega arith) in
-      one_more_program now.0 now.1
+      one_more_program (counts_are n.buffers n.textures (n.programs + 1) (behind_call (Program (CreateShader kind)) (answers_from loaded n)) counted (omega arith) (omega arith) (omega arith))
   given_more (Program CreateProgram) counted =
-      let now = counts_are n.buffers (n.programs + 1) (behind_call (Program CreateProgram) (answers_from loaded n)) counted (omega arith) (omega arith) in
-      one_more_program now.0 now.1
-  given_more (Program call) counted =
-      let now = counts_are n.buffers n.programs (behind_call (Program call) (answers_from loaded n)) counted (omega arith) (omega arith) in
-      none_more now.0 now.1
-  given_more (Draw call) counted =
-      let now = counts_are n.buffers n.programs (answers_from loaded n) (counted ∙ drawing_asks_nothing call (answers_from loaded n)) (omega arith) (omega arith) in
-      drawing_gives call ∙ none_more now.0 now.1
+      one_more_program (counts_are n.buffers n.textures (n.programs + 1) (behind_call (Program CreateProgram) (answers_from loaded n)) counted (omega arith) (omega arith) (omega arith))
+  given_more (Program call) counted = none_more (no_name (behind_call (Program call) (answers_from loaded n)) counted refl refl refl)
+  given_more (Draw call) counted = drawing_gives call ∙ none_more (no_name (answers_from loaded n) (counted ∙ drawing_asks_nothing call (answers_from loaded n)) refl refl refl)
 
 module _ (js now : List DriverEntry) (n n2 : Counts) (loaded : Answers) (call : DriverCall) (answer : Answer) (is : now ≡ js ++ (record { call = call; answer = answer }) ∷ [])
     (counted : answers_from loaded n2 ≡ behind_call call (answers_from loaded n)) (was : IsCounted js n loaded) (next : answer ≡ answer_to (behind_entries js (answers_of loaded)) call) where

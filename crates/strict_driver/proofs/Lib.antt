@@ -6,6 +6,7 @@ pub mod Kept
 pub mod NamesGiven
 pub mod Answered
 pub mod Sound
+pub mod Fair
 pub mod TableSteps
 pub mod Entering
 pub mod Among

@@ -2,22 +2,23 @@
 use Rattle.std.proofs.Common.{◌≡◌, List, [], ◌∷◌, ◌++◌, refl, sym, ◌∙◌, ap, subst, append_assoc, append-nil}
 use Rattle.gl_plain.specs.declared.driver_calls.Answer.{Answer}
 use Rattle.gl_plain.specs.declared.driver_calls.Answer.TheVariants.{Name, Compile, Link, Validate}
-use Rattle.gl_plain.specs.declared.driver_calls.DriverCall.TheVariants.{Object, Program, Draw}
+use Rattle.gl_plain.specs.declared.driver_calls.DriverCall.TheVariants.{Object, Image, Program, Draw}
 use Rattle.gl_plain.specs.declared.driver_calls.DrawDriver.{DrawDriver}
-use Rattle.gl_plain.specs.declared.driver_calls.DrawDriver.TheVariants.{SetRaster}
 use Rattle.gl_plain.specs.declared.driver_calls.DriverEntry.{DriverEntry}
 use Rattle.gl_plain.specs.declared.driver_calls.ObjectDriver.{ObjectDriver}
-use Rattle.gl_plain.specs.declared.driver_calls.ObjectDriver.TheVariants.{GenBuffer}
+use Rattle.gl_plain.specs.declared.driver_calls.ObjectDriver.TheVariants.{GenBuffer, GenTexture}
+use Rattle.gl_plain.specs.declared.driver_calls.ImageDriver.{ImageDriver}
 use Rattle.gl_plain.specs.declared.driver_calls.ProgramDriver.{ProgramDriver}
 use Rattle.gl_plain.specs.declared.driver_calls.ProgramDriver.TheVariants.{CreateShader, CreateProgram, CompileShader, LinkProgram, ValidateProgram}
 use Rattle.gl_plain.specs.State.{DriverTables, DriverState}
-use Rattle.gl_plain.specs.driver.Allowed.{IsObjectAllowed}
+use Rattle.gl_plain.specs.driver.Allowed.{IsObjectAllowed, IsImageAllowed}
 use Rattle.gl_plain.specs.driver.Answers.{IsObjectAnswer}
-use Rattle.gl_plain.specs.driver.Effect.{after_object, after_create, after_compile, after_link, after_validate, after_program, after_drawing}
+use Rattle.gl_plain.specs.driver.Effect.{after_object, after_image, after_create, after_compile, after_link, after_validate, after_program, after_drawing}
 use Rattle.gl_plain.specs.subjects.Images.{Contents}
 use Rattle.gl_plain.specs.subjects.Programs.{create_shader_effect, create_program_effect}
 use Rattle.strict_driver.specs.declared.tables.Tables.{Tables}
 use Rattle.strict_driver.specs.KeptBuffers.{buffers_of}
+use Rattle.strict_driver.specs.KeptTextures.{textures_of}
 use Rattle.strict_driver.specs.TableState.{Follow, state_of}
 
 module _ (js : List DriverEntry) (kept : Tables) where
@@ -26,6 +27,7 @@ module _ (js : List DriverEntry) (kept : Tables) where
 
   same_answer : (t t2 : DriverTables) (k k2 : Contents) (call : ObjectDriver) (answer : Answer) → IsObjectAnswer (record { tables = state_of t js kept; contents = k }) call answer → IsObjectAnswer (record { tables = state_of t2 js kept; contents = k2 }) call answer
   same_answer t t2 k k2 GenBuffer answer h = h
+  same_answer t t2 k k2 GenTexture answer h = h
   same_answer t t2 k k2 call answer h = h
 
   -- a call on objects is allowed whatever shaders and programs there are
@@ -36,12 +38,6 @@ module _ (js : List DriverEntry) (kept : Tables) where
   pub answered_alone : (d : DriverState) (t2 : DriverTables) (k2 : Contents) (call : ObjectDriver) (answer : Answer) → state_of d.tables js kept ≡ d.tables → IsObjectAnswer d call answer → IsObjectAnswer (record { tables = state_of t2 js kept; contents = k2 }) call answer
   answered_alone d t2 k2 call answer is answered =
       same_answer d.tables t2 d.contents k2 call answer (subst (λ (u : DriverTables). IsObjectAnswer (record { tables = u; contents = d.contents }) call answer) (sym is) answered)
-
-  -- where the tables change as a call on objects says, they are those that it leaves
-  pub object_steps : (t : DriverTables) (now : Tables) (call : ObjectDriver) (answer : Answer) → state_of t js now ≡ after_object (state_of t js kept) call answer → state_of t js kept ≡ t → state_of (after_object t call answer) js now ≡ after_object t call answer
-  object_steps t now call answer after is =
-      let e : state_of t js now ≡ after_object t call answer = after ∙ ap (λ (u : DriverTables). after_object u call answer) is in
-      ap (λ (u : DriverTables). state_of u js now) (sym e) ∙ e
 
   create_steps : (create : _) (t : DriverTables) (answer : Answer) → state_of (after_create create t answer) js kept ≡ after_create create (state_of t js kept) answer
   create_steps create t (Name n) = refl
@@ -71,13 +67,15 @@ module _ (js : List DriverEntry) (kept : Tables) where
   pub program_steps : (t : DriverTables) (call : ProgramDriver) (answer : Answer) → state_of t js kept ≡ t → state_of (after_program t call answer) js kept ≡ after_program t call answer
   program_steps t call answer is = kept_same t call answer ∙ ap (λ (u : DriverTables). after_program u call answer) is
 
-  kept_beside : (t : DriverTables) (call : DrawDriver) → state_of (after_drawing t call) js kept ≡ after_drawing (state_of t js kept) call
-  kept_beside t (SetRaster number words) = refl
-  kept_beside t call = refl
+  -- a call on images is allowed with the textures that are kept
+  pub image_allowed : (t : DriverTables) (call : ImageDriver) → state_of t js kept ≡ t → IsImageAllowed t.textures.objects call → IsImageAllowed (textures_of kept.textures).objects call
+  image_allowed t call is allowed = subst (λ (u : DriverTables). IsImageAllowed u.textures.objects call) (sym is) allowed
 
-  -- and so does one on the fixed state, or one that clears or draws
-  pub drawing_steps : (t : DriverTables) (call : DrawDriver) → state_of t js kept ≡ t → state_of (after_drawing t call) js kept ≡ after_drawing t call
-  drawing_steps t call is = kept_beside t call ∙ ap (λ (u : DriverTables). after_drawing u call) is
+  -- where the tables change as a call says, they are those that it leaves
+  pub steps : (after : DriverTables → DriverTables) (t : DriverTables) (now : Tables) → state_of t js now ≡ after (state_of t js kept) → state_of t js kept ≡ t → state_of (after t) js now ≡ after t
+  steps after t now changed is =
+      let e : state_of t js now ≡ after t = changed ∙ ap after is in
+      ap (λ (u : DriverTables). state_of u js now) (sym e) ∙ e
 
 module _ (t : DriverTables) (js : List DriverEntry) (kept : Tables) where
   -- with nothing behind the journal
@@ -91,6 +89,9 @@ module _ (t : DriverTables) (js : List DriverEntry) (kept : Tables) where
   abbrev object_entry : ObjectDriver → Answer → DriverEntry
   object_entry call answer = record { call = Object call; answer = answer }
 
+  abbrev image_entry : ImageDriver → Answer → DriverEntry
+  image_entry call answer = record { call = Image call; answer = answer }
+
   abbrev program_entry : ProgramDriver → Answer → DriverEntry
   program_entry call answer = record { call = Program call; answer = answer }
 
@@ -102,7 +103,13 @@ module _ (t : DriverTables) (js : List DriverEntry) (kept : Tables) where
       → ((u : DriverTables) (more : List DriverEntry) → state_of u (js ++ object_entry call answer ∷ more) now ≡ after_object (state_of u (js ++ object_entry call answer ∷ more) kept) call answer) → Follow (after_object t call answer) (js ++ object_entry call answer ∷ []) now
   object_follows now call answer follow after more =
       let e = object_entry call answer in
-      ap (λ (j : List DriverEntry). state_of (after_object t call answer) j now) (append_assoc js (e ∷ []) more) ∙ object_steps (js ++ e ∷ more) kept t now call answer (after t more) (follow (e ∷ more))
+      ap (λ (j : List DriverEntry). state_of (after_object t call answer) j now) (append_assoc js (e ∷ []) more) ∙ steps (js ++ e ∷ more) kept (λ u. after_object u call answer) t now (after t more) (follow (e ∷ more))
+
+  -- and one on images
+  pub image_follows : (now : Tables) (call : ImageDriver) (answer : Answer) → Follow t js kept → ((u : DriverTables) (j : List DriverEntry) → state_of u j now ≡ after_image (state_of u j kept) call answer) → Follow (after_image t call answer) (js ++ image_entry call answer ∷ []) now
+  image_follows now call answer follow after more =
+      let e = image_entry call answer in
+      ap (λ (j : List DriverEntry). state_of (after_image t call answer) j now) (append_assoc js (e ∷ []) more) ∙ steps (js ++ e ∷ more) kept (λ u. after_image u call answer) t now (after t (js ++ e ∷ more)) (follow (e ∷ more))
 
   -- and one on shaders and programs, as they are
   pub program_follows : (call : ProgramDriver) (answer : Answer) → Follow t js kept → Follow (after_program t call answer) (js ++ program_entry call answer ∷ []) kept
@@ -110,8 +117,8 @@ module _ (t : DriverTables) (js : List DriverEntry) (kept : Tables) where
       let e = program_entry call answer in
       ap (λ (j : List DriverEntry). state_of (after_program t call answer) j kept) (append_assoc js (e ∷ []) more) ∙ program_steps (js ++ e ∷ more) kept t call answer (follow (e ∷ more))
 
-  -- and one on the fixed state, or one that clears or draws, as they are
-  pub drawing_follows : (call : DrawDriver) (answer : Answer) → Follow t js kept → Follow (after_drawing t call) (js ++ drawing_entry call answer ∷ []) kept
-  drawing_follows call answer follow more =
+  -- and one on the active unit or the fixed state, or one that clears or draws
+  pub drawing_follows : (now : Tables) (call : DrawDriver) (answer : Answer) → Follow t js kept → ((u : DriverTables) (j : List DriverEntry) → state_of (after_drawing u call) j now ≡ after_drawing (state_of u j kept) call) → Follow (after_drawing t call) (js ++ drawing_entry call answer ∷ []) now
+  drawing_follows now call answer follow after more =
       let e = drawing_entry call answer in
-      ap (λ (j : List DriverEntry). state_of (after_drawing t call) j kept) (append_assoc js (e ∷ []) more) ∙ drawing_steps (js ++ e ∷ more) kept t call (follow (e ∷ more))
+      ap (λ (j : List DriverEntry). state_of (after_drawing t call) j now) (append_assoc js (e ∷ []) more) ∙ after t (js ++ e ∷ more) ∙ ap (λ (u : DriverTables). after_drawing u call) (follow (e ∷ more))

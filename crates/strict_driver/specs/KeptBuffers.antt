@@ -2,10 +2,10 @@
 use Rattle.std.specs.Prelude.{ℕ, List, [], slice_get, Option, None, Some}
 use Rattle.gl_plain.specs.declared.objects.Buffer.{Buffer}
 use Rattle.gl_plain.specs.declared.driver_calls.DriverCall.{DriverCall}
-use Rattle.gl_plain.specs.declared.driver_calls.DriverCall.TheVariants.{Object, Program, Draw}
+use Rattle.gl_plain.specs.declared.driver_calls.DriverCall.TheVariants.{Object, Image, Program, Draw}
 use Rattle.gl_plain.specs.declared.driver_calls.DriverEntry.{DriverEntry}
 use Rattle.gl_plain.specs.declared.driver_calls.ObjectDriver.{ObjectDriver}
-use Rattle.gl_plain.specs.declared.driver_calls.ObjectDriver.TheVariants.{GenBuffer, BindBuffer, BufferData, BufferSubData, DeleteBuffer, VertexAttrib4, VertexAttribPointer, SetArray}
+use Rattle.gl_plain.specs.declared.driver_calls.ObjectDriver.TheVariants.{GenBuffer, BindBuffer, BufferData, BufferSubData, DeleteBuffer, GenTexture, BindTexture, DeleteTexture, VertexAttrib4, VertexAttribPointer, SetArray}
 use Rattle.gl_plain.specs.subjects.Buffers.{BufferTables}
 use Rattle.strict_driver.specs.declared.buffers.KeptBytes.{KeptBytes}
 use Rattle.strict_driver.specs.declared.buffers.KeptBytes.TheVariants.{InJournal, Own}
@@ -20,6 +20,9 @@ bytes_given (BindBuffer target name) = []
 bytes_given (BufferData target bytes usage) = bytes
 bytes_given (BufferSubData target offset bytes) = []
 bytes_given (DeleteBuffer name) = []
+bytes_given GenTexture = []
+bytes_given (BindTexture target name) = []
+bytes_given (DeleteTexture name) = []
 bytes_given (VertexAttrib4 index values) = []
 bytes_given (VertexAttribPointer index size kind normalized stride offset) = []
 bytes_given (SetArray index on) = []
@@ -27,6 +30,7 @@ bytes_given (SetArray index on) = []
 -- the bytes that a buffer is given by a call
 abbrev pub bytes_stored : DriverCall → List ℕ
 bytes_stored (Object call) = bytes_given call
+bytes_stored (Image call) = []
 bytes_stored (Program call) = []
 bytes_stored (Draw call) = []
 

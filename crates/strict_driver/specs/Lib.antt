@@ -3,6 +3,7 @@ pub mod Tabulated
 pub mod Standings
 pub mod LentObject
 pub mod KeptBuffers
+pub mod KeptTextures
 pub mod TableState
 pub mod Given
 pub mod StrictView

@@ -1,15 +1,16 @@
 //! How far the answers of a driver have gone.
 ghost use Rattle.std.specs.Prelude.{◌≡◌, IfSome, IfNone};
 ghost use Rattle.gl_plain.specs.declared.driver_calls.Answers.{Answers};
-ghost use Rattle.gl_plain.specs.driver.Answers.{behind_call, behind_object, behind_program};
+ghost use Rattle.gl_plain.specs.driver.Answers.{behind_call, behind_image, behind_object, behind_program};
 ghost use Rattle.strict_driver.specs.Given.{HasLast, answers_from, no_counts};
 
-use gl_plain::{DriverCall, ObjectDriver, ProgramDriver};
+use gl_plain::{DriverCall, ImageDriver, ObjectDriver, ProgramDriver};
 
 /// How many names a driver gave in each name space, and how often it was asked each other question.
 #[derive(Clone, Copy, Debug, PartialEq, Eq)]
 pub struct Counts {
     pub buffers: u64,
+    pub textures: u64,
     /// The names of shaders and programs.
     pub programs: u64,
     /// What compilations said.
@@ -29,6 +30,7 @@ impl Counts {
     {
         Counts {
             buffers: 0,
+            textures: 0,
             programs: 0,
             compiles: 0,
             links: 0,
@@ -37,7 +39,8 @@ impl Counts {
         }
     }
 
-    /// The counts after a call, or none past the end of their type. A call on the fixed state, or one that clears or draws, asks nothing.
+    /// The counts after a call, or none past the end of their type. A call on the active unit or the fixed state, or
+    /// one that clears or draws, asks nothing.
     #[tactic(auto, using(crate::proofs::Answered::drawing_asks_nothing))]
     pub fn after(self, call: &DriverCall) -> Option<Counts>
         ensures some { IfSome result (λ counts. (loaded : Answers) → answers_from loaded counts ≡ behind_call call.now (answers_from loaded self)) }
@@ -45,6 +48,7 @@ impl Counts {
     {
         match call {
             DriverCall::Object(call) => self.after_object(call),
+            DriverCall::Image(call) => self.after_image(call),
             DriverCall::Program(call) => self.after_program(call),
             DriverCall::Draw(_) => Some(self),
         }
@@ -60,6 +64,10 @@ impl Counts {
                 buffers: self.buffers.checked_add(1)?,
                 ..self
             }),
+            ObjectDriver::GenTexture => Some(Counts {
+                textures: self.textures.checked_add(1)?,
+                ..self
+            }),
             ObjectDriver::BufferData { .. } => Some(Counts {
                 stores: self.stores.checked_add(1)?,
                 ..self
@@ -67,9 +75,27 @@ impl Counts {
             ObjectDriver::BindBuffer { .. }
             | ObjectDriver::BufferSubData { .. }
             | ObjectDriver::DeleteBuffer { .. }
+            | ObjectDriver::BindTexture { .. }
+            | ObjectDriver::DeleteTexture { .. }
             | ObjectDriver::VertexAttrib4 { .. }
             | ObjectDriver::VertexAttribPointer { .. }
             | ObjectDriver::SetArray { .. } => Some(self),
+        }
+    }
+
+    /// The counts after a call on images.
+    fn after_image(self, call: &ImageDriver) -> Option<Counts>
+        ensures some { IfSome result (λ counts. (loaded : Answers) → answers_from loaded counts ≡ behind_image call.now (answers_from loaded self)) }
+        ensures none { IfNone result (HasLast self) }
+    {
+        match call {
+            ImageDriver::TexImage { .. } => Some(Counts {
+                stores: self.stores.checked_add(1)?,
+                ..self
+            }),
+            ImageDriver::TexSubImage { .. }
+            | ImageDriver::ZeroLevel { .. }
+            | ImageDriver::TexParameter { .. } => Some(self),
         }
     }
 

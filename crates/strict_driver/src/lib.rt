@@ -8,5 +8,6 @@ mod ordered;
 mod said;
 mod strict;
 mod tables;
+mod textures;
 
 pub use strict::StrictDriver;

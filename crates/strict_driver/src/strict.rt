@@ -11,18 +11,19 @@ ghost use Rattle.gl_plain.specs.driver.Answers.{AreAnsweredBy, answer_to, stored
 ghost use Rattle.gl_plain.specs.Journal.{IsLegal, state_after};
 ghost use Rattle.gl_plain.specs.Oracle.{answers_of, first};
 ghost use Rattle.gl_driver.specs.History.{Served, Caused, Rose, is_oom};
+ghost use Rattle.gl_driver.specs.Payloads.{payload_given};
 ghost use Rattle.strict_driver.specs.Given.{is_lost_at};
 ghost use Rattle.strict_driver.specs.StrictHistory.{new_driver, history_of, Continues, answers_left};
 
 use crate::counts::Counts;
 use crate::said::{compile_said, link_said, validation_said};
 use crate::tables::Tables;
-use gl_base::GlEnum;
 use gl_base::limits::DEFAULT_SURFACE;
+use gl_base::{GlEnum, Rect};
 use gl_driver::{Driver, DriverStop, Stored};
 use gl_plain::{
-    Answer, Answers, Bytes, DrawDriver, DriverCall, DriverEntry, EntryList, LinkAnswer,
-    ObjectDriver, ProgramDriver, Verdict, Words,
+    Answer, Answers, Bytes, DrawDriver, DriverCall, DriverEntry, EntryList, ImageDriver,
+    ImagePlace, LinkAnswer, ObjectDriver, PartWords, Payload, ProgramDriver, Verdict, Words,
 };
 use std::alloc::{AllocError, Global};
 use std::marker::Model;
@@ -150,6 +151,13 @@ impl StrictDriver {
         ensures { IfSome result (λ name. name ≡ first (answers_left self.now).buffers) }
     {
         self.counts.buffers.checked_add(1)
+    }
+
+    /// The name that is given next in the name space of textures, or none past the end of its type.
+    fn next_texture(&self) -> Option<u64>
+        ensures { IfSome result (λ name. name ≡ first (answers_left self.now).textures) }
+    {
+        self.counts.textures.checked_add(1)
     }
 
     /// The name that is given next in the name space of shaders and programs, or none past the end of its type.
@@ -326,6 +334,32 @@ impl Driver for StrictDriver {
         self.enter(DriverCall::Object(call), Answer::Done)
     }
 
+    fn gen_texture(&mut self) -> Result<u64, DriverStop> {
+        self.ready()?;
+        let Some(name) = self.next_texture() else {
+            return Err(self.stop());
+        };
+        match self.enter(
+            DriverCall::Object(ObjectDriver::GenTexture),
+            Answer::Name(name),
+        ) {
+            Ok(()) => Ok(name),
+            Err(stop) => Err(stop),
+        }
+    }
+
+    fn bind_texture(&mut self, target: GlEnum, name: u64) -> Result<(), DriverStop> {
+        self.ready()?;
+        let call = ObjectDriver::BindTexture { target, name };
+        self.enter(DriverCall::Object(call), Answer::Done)
+    }
+
+    fn delete_texture(&mut self, name: u64) -> Result<(), DriverStop> {
+        self.ready()?;
+        let call = ObjectDriver::DeleteTexture { name };
+        self.enter(DriverCall::Object(call), Answer::Done)
+    }
+
     fn vertex_attrib_4(&mut self, index: u32, values: [u32; 4]) -> Result<(), DriverStop> {
         self.ready()?;
         let call = ObjectDriver::VertexAttrib4 { index, values };
@@ -357,6 +391,107 @@ impl Driver for StrictDriver {
         self.ready()?;
         let call = ObjectDriver::SetArray { index, on };
         self.enter(DriverCall::Object(call), Answer::Done)
+    }
+
+    fn tex_image(
+        &mut self,
+        target: GlEnum,
+        level: i32,
+        format: GlEnum,
+        kind: GlEnum,
+        width: i32,
+        height: i32,
+        bytes: Option<&[u8]>,
+    ) -> Result<Stored, DriverStop> {
+        self.ready()?;
+        let Ok(payload) = copied(self.alloc, bytes) else {
+            return Err(self.stop());
+        };
+        let room = self.room();
+        let call = ImageDriver::TexImage {
+            target,
+            level,
+            format,
+            kind,
+            width,
+            height,
+            payload,
+        };
+        match self.enter(DriverCall::Image(call), stored_answer(room)) {
+            Ok(()) => Ok(room),
+            Err(stop) => Err(stop),
+        }
+    }
+
+    fn tex_sub_image(
+        &mut self,
+        target: GlEnum,
+        level: i32,
+        x: i32,
+        y: i32,
+        width: i32,
+        height: i32,
+        format: GlEnum,
+        kind: GlEnum,
+        bytes: &[u8],
+    ) -> Result<(), DriverStop> {
+        self.ready()?;
+        let Ok(bytes) = Bytes::from_slice(self.alloc, bytes) else {
+            return Err(self.stop());
+        };
+        let part = PartWords {
+            target,
+            level,
+            x,
+            y,
+            width,
+            height,
+            format,
+            kind,
+        };
+        let call = ImageDriver::TexSubImage { part, bytes };
+        self.enter(DriverCall::Image(call), Answer::Done)
+    }
+
+    fn zero_level(
+        &mut self,
+        name: u64,
+        face: GlEnum,
+        level: u32,
+        x: u32,
+        y: u32,
+        width: u32,
+        height: u32,
+    ) -> Result<(), DriverStop> {
+        self.ready()?;
+        let place = ImagePlace {
+            texture: name,
+            face,
+            level,
+        };
+        let rect = Rect {
+            x,
+            y,
+            width,
+            height,
+        };
+        let call = ImageDriver::ZeroLevel { place, rect };
+        self.enter(DriverCall::Image(call), Answer::Done)
+    }
+
+    fn tex_parameter(
+        &mut self,
+        target: GlEnum,
+        parameter: GlEnum,
+        value: GlEnum,
+    ) -> Result<(), DriverStop> {
+        self.ready()?;
+        let call = ImageDriver::TexParameter {
+            target,
+            pname: parameter,
+            value,
+        };
+        self.enter(DriverCall::Image(call), Answer::Done)
     }
 
     fn create_shader(&mut self, kind: GlEnum) -> Result<u64, DriverStop> {
@@ -505,6 +640,12 @@ impl Driver for StrictDriver {
         self.enter(DriverCall::Program(call), Answer::Done)
     }
 
+    fn active_texture(&mut self, unit: u32) -> Result<(), DriverStop> {
+        self.ready()?;
+        let call = DrawDriver::ActiveTexture { unit };
+        self.enter(DriverCall::Draw(call), Answer::Done)
+    }
+
     fn set_raster(&mut self, number: u32, words: &[u32]) -> Result<(), DriverStop> {
         self.ready()?;
         let Ok(words) = Words::from_slice(self.alloc, words) else {
@@ -568,5 +709,15 @@ fn stored_answer(room: Stored) -> Answer
     match room {
         Stored::Done => Answer::Done,
         Stored::Oom => Answer::Oom,
+    }
+}
+
+/// A copy of the bytes that a call is given, or none.
+fn copied(alloc: Global, bytes: Option<&[u8]>) -> Result<Payload, AllocError>
+    ensures { IfOk result (λ payload. payload ≡ payload_given bytes.entry) }
+{
+    match bytes {
+        Some(bytes) => Ok(Payload::Here(Bytes::from_slice(alloc, bytes)?)),
+        None => Ok(Payload::Absent),
     }
 }

@@ -4,32 +4,38 @@ ghost use Rattle.std.specs.Prelude.{List, ◌≡◌, [], ◌∷◌, ◌++◌, Is
 ghost use Rattle.gl_plain.specs.declared.driver_calls.Answer.TheVariants as answers;
 ghost use Rattle.gl_plain.specs.declared.driver_calls.DriverCall.TheVariants.{Object};
 ghost use Rattle.gl_plain.specs.declared.driver_calls.DriverEntry.{DriverEntry};
-ghost use Rattle.gl_plain.specs.driver.Allowed.{IsAllowed, IsObjectAllowed};
+ghost use Rattle.gl_plain.specs.driver.Allowed.{IsAllowed, IsImageAllowed, IsObjectAllowed};
 ghost use Rattle.gl_plain.specs.driver.Answers.{IsAnswer, IsNewName, IsObjectAnswer};
-ghost use Rattle.gl_plain.specs.driver.Effect.{after_buffer_data, after_gen, after_object, driver_after};
+ghost use Rattle.gl_plain.specs.driver.Effect.{after_buffer_data, after_drawing, after_gen, after_image, after_object, after_tex_image, driver_after};
 ghost use Rattle.gl_plain.specs.declared.driver_calls.ObjectDriver.TheVariants.{BufferSubData, DeleteBuffer, VertexAttribPointer};
 ghost use Rattle.gl_plain.specs.subjects.Attributes.{vertex_attrib_pointer_refusal};
 ghost use Rattle.gl_plain.specs.subjects.Attributes as subject;
 ghost use Rattle.gl_plain.specs.subjects.Buffers.{IsBufferSubDataAllowed, bound};
-ghost use Rattle.gl_plain.specs.subjects.Images.{opening_contents};
+ghost use Rattle.gl_plain.specs.subjects.Images.{image_words, opening_contents, tex_image_refusal, view_of};
 ghost use Rattle.gl_plain.specs.subjects.Names.{IsLive};
 ghost use Rattle.gl_plain.specs.Spaces as space;
 ghost use Rattle.gl_plain.specs.State.{DriverTables, opening_tables};
 ghost use Rattle.gl_plain.specs.Words.{is_negative};
 ghost use Rattle.gl_plain.specs.Words as words;
 ghost use Rattle.strict_driver.specs.KeptBuffers.{buffers_of, bytes_at};
+ghost use Rattle.strict_driver.specs.KeptTextures.{textures_of};
 ghost use Rattle.strict_driver.specs.TableState.{Follow, left_by, state_of};
 
 use crate::buffers::Buffers;
+use crate::textures::Textures;
 use gl_base::GlEnum;
-use gl_plain::{Answer, ArraySpec, DriverCall, DriverEntry, ObjectDriver, VertexAttributes};
+use gl_plain::{
+    Answer, ArraySpec, DrawDriver, DriverCall, DriverEntry, ImageDriver, LevelView, ObjectDriver,
+    VertexAttributes,
+};
 use std::alloc::{AllocError, Global};
 
-/// The state tables that a driver keeps: the sides of the default framebuffer, the buffers, and the vertex attributes.
+/// The state tables that a driver keeps: the sides of the default framebuffer, the buffers, the textures, and the vertex attributes.
 #[derive(Drop)]
 pub struct Tables {
     surface: (u32, u32),
     buffers: Buffers,
+    textures: Textures,
     attributes: VertexAttributes,
 }
 
@@ -50,6 +56,7 @@ impl Tables {
         Tables {
             surface,
             buffers: Buffers::new(alloc),
+            textures: Textures::new(alloc),
             attributes: VertexAttributes::new(),
         }
     }
@@ -94,8 +101,12 @@ impl Tables {
     {
         match call {
             DriverCall::Object(call) => self.apply_object(journal, call, answer),
+            DriverCall::Image(call) => self.apply_image(call, answer),
             DriverCall::Program(_) => Ok(()),
-            DriverCall::Draw(_) => Ok(()),
+            DriverCall::Draw(call) => {
+                self.apply_draw(call);
+                Ok(())
+            }
         }
     }
 
@@ -124,6 +135,9 @@ impl Tables {
                 bytes,
             } => self.change(journal, *target, *offset, bytes.as_slice())?,
             ObjectDriver::DeleteBuffer { name } => self.delete(*name),
+            ObjectDriver::GenTexture => self.give_texture(answer)?,
+            ObjectDriver::BindTexture { target, name } => self.textures.bind(*target, *name)?,
+            ObjectDriver::DeleteTexture { name } => self.textures.delete(*name),
             ObjectDriver::VertexAttrib4 { index, values } => {
                 self.attributes.set_constant(*index, *values);
             }
@@ -138,6 +152,74 @@ impl Tables {
             ObjectDriver::SetArray { index, on } => self.attributes.set_enabled(*index, *on),
         }
         Ok(())
+    }
+
+    /// Changes the tables as a call on images does.
+    fn apply_image(&mut self, call: &ImageDriver, answer: &Answer) -> Result<(), AllocError>
+        requires { IsImageAllowed (textures_of self.old.textures).objects call.now }
+        ensures ok { OnOk result ((t : DriverTables) (js : List DriverEntry) → state_of t js self.new ≡ after_image (state_of t js self.old) call.now answer.now) }
+        ensures surface { self.new.surface ≡ self.old.surface }
+    {
+        match call {
+            ImageDriver::TexImage {
+                target,
+                level,
+                format,
+                kind,
+                width,
+                height,
+                ..
+            } => self.put_image(*target, *level, *format, *kind, *width, *height, answer),
+            ImageDriver::TexSubImage { .. } | ImageDriver::ZeroLevel { .. } => Ok(()),
+            ImageDriver::TexParameter {
+                target,
+                pname,
+                value,
+            } => self.textures.set_parameter(*target, *pname, *value),
+        }
+    }
+
+    /// Changes the tables as a call on the active unit or the fixed state does, or one that clears or draws.
+    fn apply_draw(&mut self, call: &DrawDriver)
+        ensures state { (t : DriverTables) (js : List DriverEntry) → state_of (after_drawing t call.now) js self.new ≡ after_drawing (state_of t js self.old) call.now }
+        ensures surface { self.new.surface ≡ self.old.surface }
+    {
+        match call {
+            DrawDriver::ActiveTexture { unit } => self.textures.set_active(*unit),
+            DrawDriver::SetRaster { .. }
+            | DrawDriver::Clear { .. }
+            | DrawDriver::DrawArrays { .. }
+            | DrawDriver::DrawElements { .. } => {}
+        }
+    }
+
+    /// Puts an image at a level of what the target binds, where there was room for it.
+    fn put_image(
+        &mut self,
+        target: GlEnum,
+        level: i32,
+        format: GlEnum,
+        kind: GlEnum,
+        width: i32,
+        height: i32,
+        answer: &Answer,
+    ) -> Result<(), AllocError>
+        requires { tex_image_refusal (image_words target level format kind width height) ≡ None }
+        ensures ok { OnOk result ((t : DriverTables) (js : List DriverEntry) → state_of t js self.new ≡ after_tex_image (state_of t js self.old) target level (view_of (image_words target level format kind width height)) answer.now) }
+        ensures surface { self.new.surface ≡ self.old.surface }
+    {
+        match answer {
+            Answer::Done => {
+                let view = LevelView {
+                    width: natural(width),
+                    height: natural(height),
+                    format,
+                    kind,
+                };
+                self.textures.put_level(target, natural(level), view)
+            }
+            _ => Ok(()),
+        }
     }
 
     /// Gives the buffer that the target binds the bytes that the entry at this place stores, where there was room for them.
@@ -204,6 +286,18 @@ impl Tables {
     {
         match answer {
             Answer::Name(name) => self.buffers.give(*name),
+            _ => Ok(()),
+        }
+    }
+
+    /// Gives a new name to a texture.
+    fn give_texture(&mut self, answer: &Answer) -> Result<(), AllocError>
+        requires { IsNewName self.old.textures.names.given answer.now }
+        ensures ok { OnOk result ((t : DriverTables) (js : List DriverEntry) → state_of t js self.new ≡ after_gen space.Textures (state_of t js self.old) answer.now) }
+        ensures surface { self.new.surface ≡ self.old.surface }
+    {
+        match answer {
+            Answer::Name(name) => self.textures.give(*name),
             _ => Ok(()),
         }
     }

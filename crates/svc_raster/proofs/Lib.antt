@@ -1,2 +1,3 @@
 -- The lemmas that proofs share.
 pub mod Kept
+pub mod Aligned

@@ -1,7 +1,8 @@
 //! The fixed state of the service (OpenGL ES 2.0.25, sections 2.12.1, 3.4, 3.5, 3.6.1, 4.1, 4.2, 4.3.1 and 5.2).
-ghost use Rattle.std.specs.Prelude.{◌≡◌, true, length, OnOk, OnErr};
+ghost use Rattle.std.specs.Prelude.{◌≡◌, ◌≤◌, true, length, OnOk, OnErr};
 ghost use Rattle.std.specs.Option.{option_map};
 ghost use Rattle.gl_plain.specs.subjects.Raster as plain;
+ghost use Rattle.svc_raster.specs.Aligned.{IsAligned, AreKept};
 ghost use Rattle.svc_raster.specs.Refused.{code_in};
 
 use crate::effects::{set_alignment, set_words};
@@ -15,6 +16,7 @@ use gl_plain::{Alignments, GlError, RasterWords};
 pub struct Raster {
     words: RasterWords,
     alignments: Alignments,
+    ghost aligned: { IsAligned alignments },
 }
 
 impl Raster {
@@ -29,9 +31,10 @@ impl Raster {
         }
     }
 
-    /// Puts the words of a command, as they are kept, in place of those that it sets.
+    /// Puts the words of a command that is not refused, as they are kept, in place of those that it sets.
+    #[tactic(auto, using(crate::proofs::Aligned::length_of, crate::proofs::Aligned::aligned_again))]
     pub fn apply(&mut self, number: u32, kept: &[u32])
-        requires { length kept.now ≡ length (plain.rules_of number) }
+        requires { AreKept number kept.now }
         ensures words { self.new.words ≡ plain.raster_effect self.old.words number kept.now }
         ensures alignments { self.new.alignments ≡ plain.alignment_effect self.old.alignments number kept.now }
     {
@@ -55,6 +58,14 @@ impl Raster {
         let kept = kept_words(number, words);
         self.apply(number, kept.as_slice());
         Ok(())
+    }
+
+    /// The alignment of rows that are read from client memory, in bytes (section 3.6.1).
+    pub fn unpack_alignment(&self) -> u32
+        ensures value { result ≡ self.now.alignments.unpack }
+        ensures limits { (1 ≤ result) × (result ≤ 8) }
+    {
+        self.alignments.unpack
     }
 
     /// The words of a state of this name, or None where it is none of the fixed state (section 6.1.1).

@@ -36,7 +36,7 @@ fn a_command_sets_the_words_that_are_asked_for(rt: HostRuntime) {
     );
     let kept = kept_words(PIXEL_STOREI, &[unpack, 8, 0, 0]);
     assert_eq!(rt; kept.as_slice(), [unpack, 8].as_slice());
-    raster.apply(PIXEL_STOREI, kept.as_slice());
+    assert_eq!(rt; raster.set(PIXEL_STOREI, &[unpack, 8]), Ok(()));
     assert!(rt; has(&raster, unpack, &[8]));
     let colour = kept_words(
         BLEND_COLOR,

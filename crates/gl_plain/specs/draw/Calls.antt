@@ -2,14 +2,16 @@
 use Rattle.std.specs.Prelude.{ℕ, ℤ, ◌==◌, if◌then◌else◌, List, [], ◌∷◌, Result, Ok, Err}
 use Rattle.gl_base.specs.declared.gl_enum.GlEnum.{GlEnum}
 use Rattle.gl_plain.specs.declared.commands.DrawCommand.{DrawCommand}
-use Rattle.gl_plain.specs.declared.commands.DrawCommand.TheVariants.{Raster, Clear, DrawArrays, DrawElements, Flush, Finish}
+use Rattle.gl_plain.specs.declared.commands.DrawCommand.TheVariants.{ActiveTexture, Raster, Clear, DrawArrays, DrawElements, Flush, Finish}
 use Rattle.gl_plain.specs.declared.driver_calls.DriverCall.{DriverCall}
 use Rattle.gl_plain.specs.declared.driver_calls.DriverCall.TheVariants.{Draw}
 use Rattle.gl_plain.specs.declared.driver_calls.DrawDriver.TheVariants as calls
 use Rattle.gl_plain.specs.declared.draws.DrawPlan.{DrawPlan}
 use Rattle.gl_plain.specs.declared.errors.GlError.{GlError}
+use Rattle.gl_plain.specs.subjects.Textures.{unit_number}
 use Rattle.gl_plain.specs.subjects.Raster.{is_driver_raster, kept_words}
-use Rattle.gl_plain.specs.subjects.Draws.{Sources, check_arrays, check_indexed}
+use Rattle.gl_plain.specs.declared.textures.ImagePlace.{ImagePlace}
+use Rattle.gl_plain.specs.subjects.Draws.{Sources, check_arrays, check_indexed, drawn_places}
 
 -- PixelStorei makes none; any other command of fixed state makes one
 abbrev pub raster_calls : ℕ → List ℕ → List DriverCall
@@ -26,9 +28,24 @@ drawing_calls call (Ok plan) = if plan.draw then call plan.black ∷ [] else []
 
 -- the driver calls of a command's name, by what a draw reads
 abbrev pub own_draw_calls : Sources → DrawCommand → List DriverCall
+own_draw_calls s (ActiveTexture unit) = Draw (calls.ActiveTexture (unit_number unit)) ∷ []
 own_draw_calls s (Raster number words) = raster_calls number words
 own_draw_calls s (Clear mask) = clear_calls mask
 own_draw_calls s (DrawArrays mode first count) = drawing_calls (λ black. Draw (calls.DrawArrays mode first count black)) (check_arrays s mode first count)
 own_draw_calls s (DrawElements mode count kind offset) = drawing_calls (λ black. Draw (calls.DrawElements mode count kind offset black)) (check_indexed s mode count kind offset)
 own_draw_calls s Flush = []
 own_draw_calls s Finish = []
+
+-- the images that a draw needs written whole before its driver call, if it makes one: those that it samples
+abbrev pub drawing_whole_first : Sources → Result DrawPlan GlError → List ImagePlace
+drawing_whole_first s (Err e) = []
+drawing_whole_first s (Ok plan) = if plan.draw then drawn_places s else []
+
+abbrev pub draw_whole_first : Sources → DrawCommand → List ImagePlace
+draw_whole_first s (ActiveTexture unit) = []
+draw_whole_first s (Raster number words) = []
+draw_whole_first s (Clear mask) = []
+draw_whole_first s (DrawArrays mode first count) = drawing_whole_first s (check_arrays s mode first count)
+draw_whole_first s (DrawElements mode count kind offset) = drawing_whole_first s (check_indexed s mode count kind offset)
+draw_whole_first s Flush = []
+draw_whole_first s Finish = []

@@ -1,8 +1,8 @@
--- The commands on the fixed state, and those that clear and draw, and the calls that they spell.
+-- ActiveTexture, the commands on the fixed state, and those that clear and draw, and the calls that they spell.
 use Rattle.std.specs.Prelude.{ℕ, ◌==◌, if◌then◌else◌, List, [], ◌∷◌, length, take, slice_index, Option, None, Some}
-use Rattle.gl_plain.specs.declared.numbers.TheConstants.{CLEAR, DRAW_ARRAYS, DRAW_ELEMENTS, FLUSH, FINISH}
+use Rattle.gl_plain.specs.declared.numbers.TheConstants.{ACTIVE_TEXTURE, CLEAR, DRAW_ARRAYS, DRAW_ELEMENTS, FLUSH, FINISH}
 use Rattle.gl_plain.specs.declared.commands.DrawCommand.{DrawCommand}
-use Rattle.gl_plain.specs.declared.commands.DrawCommand.TheVariants.{Raster, Clear, DrawArrays, DrawElements, Flush, Finish}
+use Rattle.gl_plain.specs.declared.commands.DrawCommand.TheVariants.{ActiveTexture, Raster, Clear, DrawArrays, DrawElements, Flush, Finish}
 use Rattle.gl_plain.specs.declared.calls.Call.{Call}
 use Rattle.gl_plain.specs.declared.calls.Call.TheVariants as calls
 use Rattle.gl_plain.specs.declared.calls.DrawCall.TheVariants as draws
@@ -17,7 +17,8 @@ four_words words = slice_index words 0 ∷ slice_index words 1 ∷ slice_index w
 -- the command that a number and words spell, or none
 abbrev pub draw_command_in : ℕ → List ℕ → Option DrawCommand
 draw_command_in number words =
-    if is_raster number then Some (Raster number (four_words words))
+    if number == ACTIVE_TEXTURE then Some (ActiveTexture (enum_at words 0))
+    else if is_raster number then Some (Raster number (four_words words))
     else if number == CLEAR then Some (Clear (slice_index words 0))
     else if number == DRAW_ARRAYS then Some (DrawArrays (enum_at words 0) (signed_at words 1) (signed_at words 2))
     else if number == DRAW_ELEMENTS then Some (DrawElements (enum_at words 0) (signed_at words 1) (enum_at words 2) (slice_index words 3))
@@ -27,6 +28,7 @@ draw_command_in number words =
 
 -- the call that a command means
 abbrev pub draw_call : DrawCommand → Call
+draw_call (ActiveTexture unit) = calls.Draw (draws.ActiveTexture unit)
 draw_call (Raster number words) = calls.Raster number (take (length (rules_of number)) words)
 draw_call (Clear mask) = calls.Draw (draws.Clear mask)
 draw_call (DrawArrays mode first count) = calls.Draw (draws.DrawArrays mode first count)

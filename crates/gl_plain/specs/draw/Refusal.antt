@@ -6,13 +6,15 @@ use Rattle.gl_plain.specs.declared.calls.DrawCall.{DrawCall}
 use Rattle.gl_plain.specs.declared.calls.DrawCall.TheVariants as calls
 use Rattle.gl_plain.specs.declared.calls.Pointer.TheVariants.{Number}
 use Rattle.gl_plain.specs.declared.commands.DrawCommand.{DrawCommand}
-use Rattle.gl_plain.specs.declared.commands.DrawCommand.TheVariants.{Raster, Clear, DrawArrays, DrawElements, Flush, Finish}
+use Rattle.gl_plain.specs.declared.commands.DrawCommand.TheVariants.{ActiveTexture, Raster, Clear, DrawArrays, DrawElements, Flush, Finish}
+use Rattle.gl_plain.specs.subjects.Textures.{active_texture_refusal}
 use Rattle.gl_plain.specs.subjects.Raster.{raster_refusal}
 use Rattle.gl_plain.specs.subjects.Clears.{clear_refusal}
 use Rattle.gl_plain.specs.subjects.Draws.{Sources, check_arrays, check_indexed, refused_by}
 
 -- the refusal of a call that clears or draws, by what a draw reads
 abbrev pub draw_refusal : Sources → DrawCall → Option GlError
+draw_refusal s (calls.ActiveTexture unit) = active_texture_refusal unit
 draw_refusal s (calls.Clear mask) = clear_refusal mask
 draw_refusal s (calls.DrawArrays mode first count) = refused_by (check_arrays s mode first count)
 draw_refusal s (calls.DrawElements mode count kind (Number offset)) = refused_by (check_indexed s mode count kind offset)
@@ -21,6 +23,7 @@ draw_refusal s calls.Finish = None
 
 -- the refusal of a command is that of its call
 abbrev pub draw_command_refusal : Sources → DrawCommand → Option GlError
+draw_command_refusal s (ActiveTexture unit) = active_texture_refusal unit
 draw_command_refusal s (Raster number words) = raster_refusal number words
 draw_command_refusal s (Clear mask) = clear_refusal mask
 draw_command_refusal s (DrawArrays mode first count) = refused_by (check_arrays s mode first count)

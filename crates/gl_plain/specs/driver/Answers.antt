@@ -7,11 +7,13 @@ use Rattle.gl_plain.specs.declared.driver_calls.Answer.TheVariants.{Done, Name, 
 use Rattle.gl_plain.specs.declared.driver_calls.Stored.{Stored}
 use Rattle.gl_plain.specs.declared.driver_calls.Stored.TheVariants as room
 use Rattle.gl_plain.specs.declared.driver_calls.ObjectDriver.{ObjectDriver}
-use Rattle.gl_plain.specs.declared.driver_calls.ObjectDriver.TheVariants.{GenBuffer, BindBuffer, BufferData, BufferSubData, DeleteBuffer, VertexAttrib4, VertexAttribPointer, SetArray}
+use Rattle.gl_plain.specs.declared.driver_calls.ObjectDriver.TheVariants.{GenBuffer, BindBuffer, BufferData, BufferSubData, DeleteBuffer, GenTexture, BindTexture, DeleteTexture, VertexAttrib4, VertexAttribPointer, SetArray}
 use Rattle.gl_plain.specs.declared.driver_calls.DriverCall.{DriverCall}
-use Rattle.gl_plain.specs.declared.driver_calls.DriverCall.TheVariants.{Object, Program, Draw}
+use Rattle.gl_plain.specs.declared.driver_calls.DriverCall.TheVariants.{Object, Image, Program, Draw}
 use Rattle.gl_plain.specs.declared.driver_calls.DrawDriver.{DrawDriver}
-use Rattle.gl_plain.specs.declared.driver_calls.DrawDriver.TheVariants.{SetRaster, Clear, DrawArrays, DrawElements}
+use Rattle.gl_plain.specs.declared.driver_calls.DrawDriver.TheVariants.{ActiveTexture, SetRaster, Clear, DrawArrays, DrawElements}
+use Rattle.gl_plain.specs.declared.driver_calls.ImageDriver.{ImageDriver}
+use Rattle.gl_plain.specs.declared.driver_calls.ImageDriver.TheVariants.{TexImage, TexSubImage, ZeroLevel, TexParameter}
 use Rattle.gl_plain.specs.declared.driver_calls.ProgramDriver.{ProgramDriver}
 use Rattle.gl_plain.specs.declared.driver_calls.ProgramDriver.TheVariants.{CreateShader, CreateProgram, DeleteShader, DeleteProgram, ShaderSource, CompileShader, AttachShader, DetachShader, BindAttribLocation, LinkProgram, ValidateProgram, UseProgram, Uniform}
 use Rattle.gl_plain.specs.declared.driver_calls.DriverEntry.{DriverEntry}
@@ -19,7 +21,7 @@ use Rattle.gl_plain.specs.subjects.Names.{IsFresh}
 use Rattle.gl_plain.specs.subjects.Links.{is_log, is_sound_link}
 use Rattle.gl_plain.specs.State.{DriverState}
 use Rattle.gl_plain.specs.Oracle.{Oracle, first, behind, led_by}
-use Rattle.gl_plain.specs.Spaces.{Space, Buffers, numbers_in, with_numbers, given_in}
+use Rattle.gl_plain.specs.Spaces.{Space, Buffers, Textures, numbers_in, with_numbers, given_in}
 
 -- the answer is a new name
 abbrev pub IsNewName : set.FinSet nat_cmp → Answer → Type 0
@@ -82,9 +84,19 @@ IsObjectAnswer d (BindBuffer target name) answer = IsDone answer
 IsObjectAnswer d (BufferData target bytes usage) answer = IsStored answer
 IsObjectAnswer d (BufferSubData target offset bytes) answer = IsDone answer
 IsObjectAnswer d (DeleteBuffer name) answer = IsDone answer
+IsObjectAnswer d GenTexture answer = IsNewName (given_in Textures d.tables.given) answer
+IsObjectAnswer d (BindTexture target name) answer = IsDone answer
+IsObjectAnswer d (DeleteTexture name) answer = IsDone answer
 IsObjectAnswer d (VertexAttrib4 index values) answer = IsDone answer
 IsObjectAnswer d (VertexAttribPointer index size kind normalized stride offset) answer = IsDone answer
 IsObjectAnswer d (SetArray index on) answer = IsDone answer
+
+-- the form of the answer to a call on images
+abbrev pub IsImageAnswer : ImageDriver → Answer → Type 0
+IsImageAnswer (TexImage target level format kind width height payload) answer = IsStored answer
+IsImageAnswer (TexSubImage part bytes) answer = IsDone answer
+IsImageAnswer (ZeroLevel place rect) answer = IsDone answer
+IsImageAnswer (TexParameter target pname value) answer = IsDone answer
 
 -- the form of the answer to a call on shaders and programs
 abbrev pub IsProgramAnswer : DriverState → ProgramDriver → Answer → Type 0
@@ -104,6 +116,7 @@ IsProgramAnswer d (Uniform location kind count bytes) answer = IsDone answer
 
 -- a call on the fixed state, or one that clears or draws, only says that it was done
 abbrev pub IsDrawingAnswer : DrawDriver → Answer → Type 0
+IsDrawingAnswer (ActiveTexture unit) answer = IsDone answer
 IsDrawingAnswer (SetRaster number words) answer = IsDone answer
 IsDrawingAnswer (Clear mask) answer = IsDone answer
 IsDrawingAnswer (DrawArrays mode first count black) answer = IsDone answer
@@ -112,6 +125,7 @@ IsDrawingAnswer (DrawElements mode count kind offset black) answer = IsDone answ
 -- the answer is of the call's form
 abbrev pub IsAnswer : DriverState → DriverCall → Answer → Type 0
 IsAnswer d (Object call) answer = IsObjectAnswer d call answer
+IsAnswer d (Image call) answer = IsImageAnswer call answer
 IsAnswer d (Program call) answer = IsProgramAnswer d call answer
 IsAnswer d (Draw call) answer = IsDrawingAnswer call answer
 
@@ -176,9 +190,19 @@ told_object (BindBuffer target name) answer o = o
 told_object (BufferData target bytes usage) answer o = told_stored answer o
 told_object (BufferSubData target offset bytes) answer o = o
 told_object (DeleteBuffer name) answer o = o
+told_object GenTexture answer o = told_number Textures answer o
+told_object (BindTexture target name) answer o = o
+told_object (DeleteTexture name) answer o = o
 told_object (VertexAttrib4 index values) answer o = o
 told_object (VertexAttribPointer index size kind normalized stride offset) answer o = o
 told_object (SetArray index on) answer o = o
+
+-- what the answer to a call on images tells, before the other answers
+abbrev pub told_image : ImageDriver → Answer → Oracle → Oracle
+told_image (TexImage target level format kind width height payload) answer o = told_stored answer o
+told_image (TexSubImage part bytes) answer o = o
+told_image (ZeroLevel place rect) answer o = o
+told_image (TexParameter target pname value) answer o = o
 
 -- what the answer to a call on shaders and programs tells, before the other answers
 abbrev pub told_of_program : ProgramDriver → Answer → Oracle → Oracle
@@ -198,6 +222,7 @@ told_of_program (Uniform location kind count bytes) answer o = o
 
 -- and tells nothing
 abbrev pub told_drawing : DrawDriver → Oracle → Oracle
+told_drawing (ActiveTexture unit) o = o
 told_drawing (SetRaster number words) o = o
 told_drawing (Clear mask) o = o
 told_drawing (DrawArrays mode first count black) o = o
@@ -206,6 +231,7 @@ told_drawing (DrawElements mode count kind offset black) o = o
 -- what the answer to a call tells
 abbrev pub told_call : DriverCall → Answer → Oracle → Oracle
 told_call (Object call) answer o = told_object call answer o
+told_call (Image call) answer o = told_image call answer o
 told_call (Program call) answer o = told_of_program call answer o
 told_call (Draw call) answer o = told_drawing call o
 
@@ -226,9 +252,19 @@ object_answer o (BindBuffer target name) = Done
 object_answer o (BufferData target bytes usage) = stored_answer (first o.stored)
 object_answer o (BufferSubData target offset bytes) = Done
 object_answer o (DeleteBuffer name) = Done
+object_answer o GenTexture = Name (first (numbers_in Textures o))
+object_answer o (BindTexture target name) = Done
+object_answer o (DeleteTexture name) = Done
 object_answer o (VertexAttrib4 index values) = Done
 object_answer o (VertexAttribPointer index size kind normalized stride offset) = Done
 object_answer o (SetArray index on) = Done
+
+-- what an oracle answers to a call on images
+abbrev pub image_answer : Oracle → ImageDriver → Answer
+image_answer o (TexImage target level format kind width height payload) = stored_answer (first o.stored)
+image_answer o (TexSubImage part bytes) = Done
+image_answer o (ZeroLevel place rect) = Done
+image_answer o (TexParameter target pname value) = Done
 
 -- what an oracle answers to a call on shaders and programs
 abbrev pub program_answer : Oracle → ProgramDriver → Answer
@@ -248,6 +284,7 @@ program_answer o (Uniform location kind count bytes) = Done
 
 -- what is answered to a call on the fixed state, or to one that clears or draws
 abbrev pub drawing_answer : DrawDriver → Answer
+drawing_answer (ActiveTexture unit) = Done
 drawing_answer (SetRaster number words) = Done
 drawing_answer (Clear mask) = Done
 drawing_answer (DrawArrays mode first count black) = Done
@@ -256,6 +293,7 @@ drawing_answer (DrawElements mode count kind offset black) = Done
 -- what an oracle answers to a call
 abbrev pub answer_to : Oracle → DriverCall → Answer
 answer_to o (Object call) = object_answer o call
+answer_to o (Image call) = image_answer o call
 answer_to o (Program call) = program_answer o call
 answer_to o (Draw call) = drawing_answer call
 
@@ -266,9 +304,19 @@ behind_object (BindBuffer target name) o = o
 behind_object (BufferData target bytes usage) o = record o { stored = behind o.stored }
 behind_object (BufferSubData target offset bytes) o = o
 behind_object (DeleteBuffer name) o = o
+behind_object GenTexture o = with_numbers Textures (behind (numbers_in Textures o)) o
+behind_object (BindTexture target name) o = o
+behind_object (DeleteTexture name) o = o
 behind_object (VertexAttrib4 index values) o = o
 behind_object (VertexAttribPointer index size kind normalized stride offset) o = o
 behind_object (SetArray index on) o = o
+
+-- the answers that are left behind a call on images
+abbrev pub behind_image : ImageDriver → Oracle → Oracle
+behind_image (TexImage target level format kind width height payload) o = record o { stored = behind o.stored }
+behind_image (TexSubImage part bytes) o = o
+behind_image (ZeroLevel place rect) o = o
+behind_image (TexParameter target pname value) o = o
 
 -- the answers that are left behind a call on shaders and programs
 abbrev pub behind_program : ProgramDriver → Oracle → Oracle
@@ -288,6 +336,7 @@ behind_program (Uniform location kind count bytes) o = o
 
 -- the answers that are left behind such a call
 abbrev pub behind_drawing : DrawDriver → Oracle → Oracle
+behind_drawing (ActiveTexture unit) o = o
 behind_drawing (SetRaster number words) o = o
 behind_drawing (Clear mask) o = o
 behind_drawing (DrawArrays mode first count black) o = o
@@ -296,6 +345,7 @@ behind_drawing (DrawElements mode count kind offset black) o = o
 -- the answers that are left behind a call
 abbrev pub behind_call : DriverCall → Oracle → Oracle
 behind_call (Object call) o = behind_object call o
+behind_call (Image call) o = behind_image call o
 behind_call (Program call) o = behind_program call o
 behind_call (Draw call) o = behind_drawing call o
 

@@ -1,27 +1,32 @@
 -- What a driver call leaves: the effect of its call of OpenGL ES, on driver names.
-use Rattle.std.specs.Prelude.{ℕ, List}
+use Rattle.std.specs.Prelude.{ℕ, ℤ, List}
 use Rattle.std.specs.FinSet as set
 use Rattle.gl_base.specs.declared.gl_enum.GlEnum.{GlEnum}
 use Rattle.gl_plain.specs.declared.driver_calls.Answer.{Answer}
 use Rattle.gl_plain.specs.declared.driver_calls.Answer.TheVariants.{Done, Name, Oom, Compile, Link, Validate}
 use Rattle.gl_plain.specs.declared.driver_calls.ObjectDriver.{ObjectDriver}
-use Rattle.gl_plain.specs.declared.driver_calls.ObjectDriver.TheVariants.{GenBuffer, BindBuffer, BufferData, BufferSubData, DeleteBuffer, VertexAttrib4, VertexAttribPointer, SetArray}
+use Rattle.gl_plain.specs.declared.driver_calls.ObjectDriver.TheVariants.{GenBuffer, BindBuffer, BufferData, BufferSubData, DeleteBuffer, GenTexture, BindTexture, DeleteTexture, VertexAttrib4, VertexAttribPointer, SetArray}
 use Rattle.gl_plain.specs.declared.driver_calls.DriverCall.{DriverCall}
-use Rattle.gl_plain.specs.declared.driver_calls.DriverCall.TheVariants.{Object, Program, Draw}
+use Rattle.gl_plain.specs.declared.driver_calls.DriverCall.TheVariants.{Object, Image, Program, Draw}
 use Rattle.gl_plain.specs.declared.driver_calls.DrawDriver.{DrawDriver}
-use Rattle.gl_plain.specs.declared.driver_calls.DrawDriver.TheVariants.{SetRaster, Clear, DrawArrays, DrawElements}
+use Rattle.gl_plain.specs.declared.driver_calls.DrawDriver.TheVariants.{ActiveTexture, SetRaster, Clear, DrawArrays, DrawElements}
+use Rattle.gl_plain.specs.declared.driver_calls.ImageDriver.{ImageDriver}
+use Rattle.gl_plain.specs.declared.driver_calls.ImageDriver.TheVariants.{TexImage, TexSubImage, ZeroLevel, TexParameter}
 use Rattle.gl_plain.specs.declared.driver_calls.ProgramDriver.{ProgramDriver}
 use Rattle.gl_plain.specs.declared.driver_calls.ProgramDriver.TheVariants.{CreateShader, CreateProgram, DeleteShader, DeleteProgram, ShaderSource, CompileShader, AttachShader, DetachShader, BindAttribLocation, LinkProgram, ValidateProgram, UseProgram, Uniform}
 use Rattle.gl_plain.specs.Words.{natural}
 use Rattle.gl_plain.specs.subjects.Buffers.{bind_buffer_effect, buffer_data_effect, buffer_sub_data_effect, delete_buffers_effect}
+use Rattle.gl_plain.specs.declared.textures.LevelView.{LevelView}
+use Rattle.gl_plain.specs.subjects.Textures.{TextureObjects, TextureTables, bind_texture_effect, delete_textures_effect, active_texture_effect, tex_parameter_effect, place_bound}
 use Rattle.gl_plain.specs.subjects.Attributes.{vertex_attrib_4f_effect, vertex_attrib_pointer_effect, array_of, set_array_effect, all_outside}
 use Rattle.gl_plain.specs.subjects.Programs.{ProgramTables, create_shader_effect, create_program_effect, shader_source_effect, compile_shader_effect, delete_shader_effect, delete_program_effect, attach_shader_effect, detach_shader_effect, bind_attrib_location_effect, link_program_effect, validate_program_effect, use_program_effect}
 use Rattle.gl_plain.specs.subjects.Uniforms.{uniform_effect}
 use Rattle.gl_plain.specs.subjects.Raster.{raster_effect}
 use Rattle.gl_plain.specs.subjects.Clears.{cleared, drawn}
-use Rattle.gl_plain.specs.subjects.Images.{Contents}
+use Rattle.gl_base.specs.PixelSizes.{pixel_size}
+use Rattle.gl_plain.specs.subjects.Images.{Contents, Undefined, Zero, image_words, view_of, tex_image_effect, part_rect, with_image, with_pixels, new_pixels, pixels_of}
 use Rattle.gl_plain.specs.State.{DriverTables, DriverState}
-use Rattle.gl_plain.specs.Spaces.{Space, Buffers, with_given}
+use Rattle.gl_plain.specs.Spaces.{Space, Buffers, Textures, with_given}
 
 -- a new name is live, and counts as given
 abbrev pub after_gen : Space → DriverTables → Answer → DriverTables
@@ -41,6 +46,14 @@ after_buffer_data t target bytes usage (Compile ok log) = t
 after_buffer_data t target bytes usage (Link a) = t
 after_buffer_data t target bytes usage (Validate ok log) = t
 
+-- the tables with other textures
+abbrev pub textures_in : DriverTables → TextureTables → DriverTables
+textures_in t textures = record t { textures = textures }
+
+-- the tables with other textures of the same names
+abbrev pub objects_in : DriverTables → TextureObjects → DriverTables
+objects_in t objects = textures_in t (record t.textures { objects = objects })
+
 -- the tables that a call on objects leaves
 abbrev pub after_object : DriverTables → ObjectDriver → Answer → DriverTables
 after_object t GenBuffer answer = after_gen Buffers t answer
@@ -48,10 +61,30 @@ after_object t (BindBuffer target name) answer = record t { buffers = bind_buffe
 after_object t (BufferData target bytes usage) answer = after_buffer_data t target bytes usage answer
 after_object t (BufferSubData target offset bytes) answer = record t { buffers = buffer_sub_data_effect t.buffers target (natural offset) bytes }
 after_object t (DeleteBuffer name) answer = record t { buffers = delete_buffers_effect t.buffers name; attribs = all_outside t.attribs name }
+after_object t GenTexture answer = after_gen Textures t answer
+after_object t (BindTexture target name) answer = textures_in t (bind_texture_effect t.textures target name)
+after_object t (DeleteTexture name) answer = textures_in t (delete_textures_effect t.textures name)
 after_object t (VertexAttrib4 index values) answer = record t { attribs = vertex_attrib_4f_effect t.attribs index values }
 after_object t (VertexAttribPointer index size kind normalized stride offset) answer =
     record t { attribs = vertex_attrib_pointer_effect t.attribs index (array_of t.buffers size kind normalized stride offset) }
 after_object t (SetArray index on) answer = record t { attribs = set_array_effect t.attribs index on }
+
+-- where there was no room, there is no new image
+abbrev pub after_tex_image : DriverTables → GlEnum → ℤ → LevelView → Answer → DriverTables
+after_tex_image t target level v Done = objects_in t (tex_image_effect t.textures.objects target (natural level) v)
+after_tex_image t target level v Oom = t
+after_tex_image t target level v (Name n) = t
+after_tex_image t target level v (Compile ok log) = t
+after_tex_image t target level v (Link a) = t
+after_tex_image t target level v (Validate ok log) = t
+
+-- the tables that a call on images leaves
+abbrev pub after_image : DriverTables → ImageDriver → Answer → DriverTables
+after_image t (TexImage target level format kind width height payload) answer =
+    after_tex_image t target level (view_of (image_words target level format kind width height)) answer
+after_image t (TexSubImage part bytes) answer = t
+after_image t (ZeroLevel place rect) answer = t
+after_image t (TexParameter target pname value) answer = objects_in t (tex_parameter_effect t.textures.objects target pname value)
 
 -- a new shader or program is there, and its name counts as given
 abbrev pub after_create : (ℕ → ProgramTables) → DriverTables → Answer → DriverTables
@@ -111,6 +144,7 @@ after_program t (Uniform location kind count bytes) answer = programs_in t (unif
 
 -- the tables that a call on the fixed state, or one that clears or draws, leaves
 abbrev pub after_drawing : DriverTables → DrawDriver → DriverTables
+after_drawing t (ActiveTexture unit) = objects_in t (active_texture_effect t.textures.objects unit)
 after_drawing t (SetRaster number words) = record t { raster = raster_effect t.raster number words }
 after_drawing t (Clear mask) = t
 after_drawing t (DrawArrays mode first count black) = t
@@ -119,19 +153,40 @@ after_drawing t (DrawElements mode count kind offset black) = t
 -- the tables after a call and its answer; no contents of images change them
 abbrev pub tables_after : DriverTables → DriverCall → Answer → DriverTables
 tables_after t (Object call) answer = after_object t call answer
+tables_after t (Image call) answer = after_image t call answer
 tables_after t (Program call) answer = after_program t call answer
 tables_after t (Draw call) answer = after_drawing t call
 
 -- the contents that a call on the fixed state, or one that clears or draws, leaves
 abbrev pub contents_drawn : Contents → DrawDriver → Contents
+contents_drawn k (ActiveTexture unit) = k
 contents_drawn k (SetRaster number words) = k
 contents_drawn k (Clear mask) = cleared mask k
 contents_drawn k (DrawArrays mode first count black) = drawn k
 contents_drawn k (DrawElements mode count kind offset black) = drawn k
 
+-- where there was no room, the contents are as they were
+abbrev pub image_kept : Contents → Contents → Answer → Contents
+image_kept k new Done = new
+image_kept k new Oom = k
+image_kept k new (Name n) = k
+image_kept k new (Compile ok log) = k
+image_kept k new (Link a) = k
+image_kept k new (Validate ok log) = k
+
+-- the contents that a call on images leaves: an image without data is not written
+abbrev pub contents_of_image : TextureObjects → Contents → ImageDriver → Answer → Contents
+contents_of_image t k (TexImage target level format kind width height payload) answer =
+    image_kept k (with_image k (place_bound t target (natural level)) (new_pixels Undefined payload (view_of (image_words target level format kind width height)))) answer
+contents_of_image t k (TexSubImage part bytes) answer =
+    with_pixels k (place_bound t part.target (natural part.level)) (part_rect part) (pixels_of bytes (pixel_size part.format part.kind) (part_rect part))
+contents_of_image t k (ZeroLevel place rect) answer = with_pixels k place rect (λ x y. Zero)
+contents_of_image t k (TexParameter target pname value) answer = k
+
 -- the contents after a call and its answer; a call on objects, shaders and programs leaves them as they are
 abbrev pub contents_after_call : DriverState → DriverCall → Answer → Contents
 contents_after_call d (Object call) answer = d.contents
+contents_after_call d (Image call) answer = contents_of_image d.tables.textures.objects d.contents call answer
 contents_after_call d (Program call) answer = d.contents
 contents_after_call d (Draw call) answer = contents_drawn d.contents call
 

@@ -4,7 +4,7 @@ use Rattle.std.specs.FinMap as map
 use Rattle.gl_base.specs.declared.gl_enum.GlEnum.{GlEnum}
 use Rattle.gl_plain.specs.declared.objects.Name.{Name}
 use Rattle.gl_plain.specs.declared.commands.ObjectCommand.{ObjectCommand}
-use Rattle.gl_plain.specs.declared.commands.ObjectCommand.TheVariants.{GenBuffers, BindBuffer, BufferData, BufferSubData, DeleteBuffers, VertexAttrib4f, VertexAttribPointer, EnableVertexAttribArray, DisableVertexAttribArray, CreateShader, ShaderSource, CompileShader, DeleteShader, CreateProgram, AttachShader, DetachShader, BindAttribLocation, LinkProgram, ValidateProgram, UseProgram, DeleteProgram, Uniform}
+use Rattle.gl_plain.specs.declared.commands.ObjectCommand.TheVariants.{GenBuffers, BindBuffer, BufferData, BufferSubData, DeleteBuffers, GenTextures, BindTexture, DeleteTextures, VertexAttrib4f, VertexAttribPointer, EnableVertexAttribArray, DisableVertexAttribArray, CreateShader, ShaderSource, CompileShader, DeleteShader, CreateProgram, AttachShader, DetachShader, BindAttribLocation, LinkProgram, ValidateProgram, UseProgram, DeleteProgram, Uniform}
 use Rattle.gl_plain.specs.declared.driver_calls.DriverCall.{DriverCall}
 use Rattle.gl_plain.specs.declared.driver_calls.DriverCall.TheVariants.{Object, Program}
 use Rattle.gl_plain.specs.declared.driver_calls.ObjectDriver.TheVariants as calls
@@ -12,11 +12,12 @@ use Rattle.gl_plain.specs.declared.driver_calls.ProgramDriver.TheVariants as pro
 use Rattle.gl_plain.specs.declared.programs.Program as programs
 use Rattle.gl_plain.specs.subjects.Data.{payload_of, bytes_of}
 use Rattle.gl_plain.specs.subjects.Buffers.{delete_buffers_calls}
+use Rattle.gl_plain.specs.subjects.Textures.{delete_textures_calls}
 use Rattle.gl_plain.specs.subjects.Programs.{ProgramTables, number_of, program_at, can_link}
 use Rattle.gl_plain.specs.subjects.Uniforms.{uniform_calls}
 use Rattle.gl_plain.specs.Oracle.{Oracle, first}
 use Rattle.gl_plain.specs.State.{EsState}
-use Rattle.gl_plain.specs.Spaces.{Space, Buffers, numbers_in, gen_call}
+use Rattle.gl_plain.specs.Spaces.{Space, Buffers, Textures, numbers_in, gen_call}
 
 -- a bind, by what the space has of the name: that of an unused one makes the call for a new name first, unless it is 0
 abbrev pub bind_calls : Space → (ℕ → DriverCall) → ℕ → Oracle → Option Name → List DriverCall
@@ -27,6 +28,10 @@ bind_calls space bind id o None =
 -- the call that binds a buffer
 abbrev pub bind_buffer_call : GlEnum → ℕ → DriverCall
 bind_buffer_call target name = Object (calls.BindBuffer target name)
+
+-- the call that binds a texture
+abbrev pub bind_texture_call : GlEnum → ℕ → DriverCall
+bind_texture_call target name = Object (calls.BindTexture target name)
 
 -- a deletion of 0 makes none
 abbrev pub delete_object_calls : (ℕ → DriverCall) → ProgramTables → ℕ → List DriverCall
@@ -49,6 +54,9 @@ own_object_calls s (BindBuffer target id) payload o = bind_calls Buffers (bind_b
 own_object_calls s (BufferData target size usage words) payload o = Object (calls.BufferData target (bytes_of (payload_of words payload) size) usage) ∷ []
 own_object_calls s (BufferSubData target offset size words) payload o = Object (calls.BufferSubData target offset payload) ∷ []
 own_object_calls s (DeleteBuffers id) payload o = delete_buffers_calls (map.get s.buffers.names id)
+own_object_calls s (GenTextures id) payload o = gen_call Textures ∷ []
+own_object_calls s (BindTexture target id) payload o = bind_calls Textures (bind_texture_call target) id o (map.get s.textures.names id)
+own_object_calls s (DeleteTextures id) payload o = delete_textures_calls (map.get s.textures.names id)
 own_object_calls s (VertexAttrib4f index x y z w) payload o = Object (calls.VertexAttrib4 index (x.0 ∷ y.0 ∷ z.0 ∷ w.0 ∷ [])) ∷ []
 own_object_calls s (VertexAttribPointer index a) payload o = Object (calls.VertexAttribPointer index a.size a.kind a.normalized a.stride a.offset) ∷ []
 own_object_calls s (EnableVertexAttribArray index) payload o = Object (calls.SetArray index true) ∷ []

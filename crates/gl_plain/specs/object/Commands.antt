@@ -1,9 +1,9 @@
 -- The commands on objects, and the calls that they spell.
 use Rattle.std.specs.Prelude.{ℕ, pos, ◌==◌, if◌then◌else◌, List, [], ◌∷◌, slice_index, Option, None, Some}
-use Rattle.gl_plain.specs.declared.numbers.TheConstants.{GEN_BUFFERS, BIND_BUFFER, BUFFER_DATA, BUFFER_SUB_DATA, DELETE_BUFFERS, VERTEX_ATTRIB_4F, VERTEX_ATTRIB_POINTER, ENABLE_VERTEX_ATTRIB_ARRAY, DISABLE_VERTEX_ATTRIB_ARRAY, CREATE_SHADER, SHADER_SOURCE, COMPILE_SHADER, DELETE_SHADER, CREATE_PROGRAM, ATTACH_SHADER, DETACH_SHADER, BIND_ATTRIB_LOCATION, LINK_PROGRAM, VALIDATE_PROGRAM, USE_PROGRAM, DELETE_PROGRAM, UNIFORM}
+use Rattle.gl_plain.specs.declared.numbers.TheConstants.{GEN_BUFFERS, BIND_BUFFER, BUFFER_DATA, BUFFER_SUB_DATA, DELETE_BUFFERS, GEN_TEXTURES, BIND_TEXTURE, DELETE_TEXTURES, VERTEX_ATTRIB_4F, VERTEX_ATTRIB_POINTER, ENABLE_VERTEX_ATTRIB_ARRAY, DISABLE_VERTEX_ATTRIB_ARRAY, CREATE_SHADER, SHADER_SOURCE, COMPILE_SHADER, DELETE_SHADER, CREATE_PROGRAM, ATTACH_SHADER, DETACH_SHADER, BIND_ATTRIB_LOCATION, LINK_PROGRAM, VALIDATE_PROGRAM, USE_PROGRAM, DELETE_PROGRAM, UNIFORM}
 use Rattle.gl_plain.specs.declared.commands.DataWords.{DataWords}
 use Rattle.gl_plain.specs.declared.commands.ObjectCommand.{ObjectCommand}
-use Rattle.gl_plain.specs.declared.commands.ObjectCommand.TheVariants.{GenBuffers, BindBuffer, BufferData, BufferSubData, DeleteBuffers, VertexAttrib4f, VertexAttribPointer, EnableVertexAttribArray, DisableVertexAttribArray, CreateShader, ShaderSource, CompileShader, DeleteShader, CreateProgram, AttachShader, DetachShader, BindAttribLocation, LinkProgram, ValidateProgram, UseProgram, DeleteProgram, Uniform}
+use Rattle.gl_plain.specs.declared.commands.ObjectCommand.TheVariants.{GenBuffers, BindBuffer, BufferData, BufferSubData, DeleteBuffers, GenTextures, BindTexture, DeleteTextures, VertexAttrib4f, VertexAttribPointer, EnableVertexAttribArray, DisableVertexAttribArray, CreateShader, ShaderSource, CompileShader, DeleteShader, CreateProgram, AttachShader, DetachShader, BindAttribLocation, LinkProgram, ValidateProgram, UseProgram, DeleteProgram, Uniform}
 use Rattle.gl_plain.specs.declared.calls.Payload.TheVariants.{Here}
 use Rattle.gl_plain.specs.declared.calls.Pointer.TheVariants.{Number}
 use Rattle.gl_plain.specs.declared.calls.ObjectCall.{ObjectCall}
@@ -37,6 +37,9 @@ object_command_in number words =
     else if number == BUFFER_DATA then Some (BufferData (enum_at words 0) (signed_at words 1) (enum_at words 2) (data_at words 3))
     else if number == BUFFER_SUB_DATA then Some (BufferSubData (enum_at words 0) (signed_at words 1) (signed_at words 2) (data_at words 3))
     else if number == DELETE_BUFFERS then Some (DeleteBuffers (slice_index words 0))
+    else if number == GEN_TEXTURES then Some (GenTextures (slice_index words 0))
+    else if number == BIND_TEXTURE then Some (BindTexture (enum_at words 0) (slice_index words 1))
+    else if number == DELETE_TEXTURES then Some (DeleteTextures (slice_index words 0))
     else if number == VERTEX_ATTRIB_4F then Some (VertexAttrib4f (slice_index words 0) (float_at words 1) (float_at words 2) (float_at words 3) (float_at words 4))
     else if number == VERTEX_ATTRIB_POINTER then Some (VertexAttribPointer (slice_index words 0) (array_at words))
     else if number == ENABLE_VERTEX_ATTRIB_ARRAY then Some (EnableVertexAttribArray (slice_index words 0))
@@ -50,6 +53,9 @@ object_call (BindBuffer target id) payload = calls.BindBuffer target id
 object_call (BufferData target size usage words) payload = calls.BufferData target size (payload_of words payload) usage
 object_call (BufferSubData target offset size words) payload = calls.BufferSubData target offset size (Here payload)
 object_call (DeleteBuffers id) payload = calls.DeleteBuffers (id ∷ [])
+object_call (GenTextures id) payload = calls.GenTextures (pos 1)
+object_call (BindTexture target id) payload = calls.BindTexture target id
+object_call (DeleteTextures id) payload = calls.DeleteTextures (id ∷ [])
 object_call (VertexAttrib4f index x y z w) payload = calls.VertexAttrib4f index x y z w
 object_call (VertexAttribPointer index a) payload = calls.VertexAttribPointer index a.size a.kind a.normalized a.stride (Number a.offset)
 object_call (EnableVertexAttribArray index) payload = calls.EnableVertexAttribArray index
@@ -75,6 +81,9 @@ names_given (BindBuffer target id) = []
 names_given (BufferData target size usage words) = []
 names_given (BufferSubData target offset size words) = []
 names_given (DeleteBuffers id) = []
+names_given (GenTextures id) = id ∷ []
+names_given (BindTexture target id) = []
+names_given (DeleteTextures id) = []
 names_given (VertexAttrib4f index x y z w) = []
 names_given (VertexAttribPointer index a) = []
 names_given (EnableVertexAttribArray index) = []
@@ -100,6 +109,9 @@ object_data_words (BindBuffer target id) = None
 object_data_words (BufferData target size usage words) = Some words
 object_data_words (BufferSubData target offset size words) = Some words
 object_data_words (DeleteBuffers id) = None
+object_data_words (GenTextures id) = None
+object_data_words (BindTexture target id) = None
+object_data_words (DeleteTextures id) = None
 object_data_words (VertexAttrib4f index x y z w) = None
 object_data_words (VertexAttribPointer index a) = None
 object_data_words (EnableVertexAttribArray index) = None

@@ -5,10 +5,11 @@ use Rattle.gl_plain.specs.declared.errors.GlError.{GlError}
 use Rattle.gl_plain.specs.declared.calls.ObjectCall.{ObjectCall}
 use Rattle.gl_plain.specs.declared.calls.ObjectCall.TheVariants as calls
 use Rattle.gl_plain.specs.declared.commands.ObjectCommand.{ObjectCommand}
-use Rattle.gl_plain.specs.declared.commands.ObjectCommand.TheVariants.{GenBuffers, BindBuffer, BufferData, BufferSubData, DeleteBuffers, VertexAttrib4f, VertexAttribPointer, EnableVertexAttribArray, DisableVertexAttribArray, CreateShader, ShaderSource, CompileShader, DeleteShader, CreateProgram, AttachShader, DetachShader, BindAttribLocation, LinkProgram, ValidateProgram, UseProgram, DeleteProgram, Uniform}
+use Rattle.gl_plain.specs.declared.commands.ObjectCommand.TheVariants.{GenBuffers, BindBuffer, BufferData, BufferSubData, DeleteBuffers, GenTextures, BindTexture, DeleteTextures, VertexAttrib4f, VertexAttribPointer, EnableVertexAttribArray, DisableVertexAttribArray, CreateShader, ShaderSource, CompileShader, DeleteShader, CreateProgram, AttachShader, DetachShader, BindAttribLocation, LinkProgram, ValidateProgram, UseProgram, DeleteProgram, Uniform}
 use Rattle.gl_plain.specs.subjects.Names.{gen_refusal}
 use Rattle.gl_plain.specs.subjects.Buffers.{gen_buffers_refusal, bind_buffer_refusal, buffer_data_refusal, buffer_sub_data_refusal}
 use Rattle.gl_plain.specs.subjects.Attributes.{attribute_refusal, vertex_attrib_pointer_refusal}
+use Rattle.gl_plain.specs.subjects.Textures.{gen_textures_refusal, bind_texture_refusal}
 use Rattle.gl_plain.specs.subjects.Programs.{create_shader_refusal, create_program_refusal, shader_refusal, program_refusal, delete_shader_refusal, delete_program_refusal, attach_shader_refusal, detach_shader_refusal, bind_attrib_location_refusal, use_program_refusal}
 use Rattle.gl_plain.specs.subjects.Uniforms.{uniform_refusal}
 use Rattle.gl_plain.specs.subjects.Data.{data_in}
@@ -21,6 +22,9 @@ object_refusal s (calls.BindBuffer target buffer) = bind_buffer_refusal s.buffer
 object_refusal s (calls.BufferData target size «data» usage) = buffer_data_refusal s.buffers target size usage
 object_refusal s (calls.BufferSubData target offset size «data») = buffer_sub_data_refusal s.buffers target offset size
 object_refusal s (calls.DeleteBuffers buffers) = None
+object_refusal s (calls.GenTextures count) = gen_refusal s.textures.names count
+object_refusal s (calls.BindTexture target texture) = bind_texture_refusal s.textures target texture
+object_refusal s (calls.DeleteTextures textures) = None
 object_refusal s (calls.VertexAttrib4f index x y z w) = attribute_refusal index
 object_refusal s (calls.VertexAttribPointer index size kind normalized stride pointer) = vertex_attrib_pointer_refusal index size kind stride
 object_refusal s (calls.EnableVertexAttribArray index) = attribute_refusal index
@@ -46,6 +50,9 @@ object_command_refusal s (BindBuffer target id) payload = bind_buffer_refusal s.
 object_command_refusal s (BufferData target size usage words) payload = buffer_data_refusal s.buffers target size usage
 object_command_refusal s (BufferSubData target offset size words) payload = buffer_sub_data_refusal s.buffers target offset size
 object_command_refusal s (DeleteBuffers id) payload = None
+object_command_refusal s (GenTextures id) payload = gen_textures_refusal s.textures
+object_command_refusal s (BindTexture target id) payload = bind_texture_refusal s.textures target id
+object_command_refusal s (DeleteTextures id) payload = None
 object_command_refusal s (VertexAttrib4f index x y z w) payload = attribute_refusal index
 object_command_refusal s (VertexAttribPointer index a) payload = vertex_attrib_pointer_refusal index a.size a.kind a.stride
 object_command_refusal s (EnableVertexAttribArray index) payload = attribute_refusal index

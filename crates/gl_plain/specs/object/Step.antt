@@ -9,7 +9,7 @@ use Rattle.gl_plain.specs.declared.calls.ObjectCall.TheVariants as calls
 use Rattle.gl_plain.specs.declared.calls.Reply.{Reply}
 use Rattle.gl_plain.specs.declared.calls.Reply.TheVariants as reply
 use Rattle.gl_plain.specs.declared.commands.ObjectCommand.{ObjectCommand}
-use Rattle.gl_plain.specs.declared.commands.ObjectCommand.TheVariants.{GenBuffers, BindBuffer, BufferData, BufferSubData, DeleteBuffers, VertexAttrib4f, VertexAttribPointer, EnableVertexAttribArray, DisableVertexAttribArray, CreateShader, ShaderSource, CompileShader, DeleteShader, CreateProgram, AttachShader, DetachShader, BindAttribLocation, LinkProgram, ValidateProgram, UseProgram, DeleteProgram, Uniform}
+use Rattle.gl_plain.specs.declared.commands.ObjectCommand.TheVariants.{GenBuffers, BindBuffer, BufferData, BufferSubData, DeleteBuffers, GenTextures, BindTexture, DeleteTextures, VertexAttrib4f, VertexAttribPointer, EnableVertexAttribArray, DisableVertexAttribArray, CreateShader, ShaderSource, CompileShader, DeleteShader, CreateProgram, AttachShader, DetachShader, BindAttribLocation, LinkProgram, ValidateProgram, UseProgram, DeleteProgram, Uniform}
 use Rattle.gl_plain.specs.declared.driver_calls.Stored.{Stored}
 use Rattle.gl_plain.specs.declared.driver_calls.Stored.TheVariants as room
 use Rattle.gl_plain.specs.Words.{natural}
@@ -17,12 +17,13 @@ use Rattle.gl_plain.specs.subjects.Names.{all_named}
 use Rattle.gl_plain.specs.subjects.Data.{bytes_of, data_in}
 use Rattle.gl_plain.specs.subjects.Buffers.{BufferTables, bind_buffer_effect, buffer_data_effect, buffer_sub_data_effect, without_buffer}
 use Rattle.gl_plain.specs.subjects.Attributes.{vertex_attrib_4f_effect, vertex_attrib_pointer_effect, array_of, set_array_effect, all_outside}
+use Rattle.gl_plain.specs.subjects.Textures.{TextureTables, bind_texture_effect, delete_textures_effect}
 use Rattle.gl_plain.specs.subjects.Programs.{ProgramTables, number_of, program_at, create_shader_effect, create_program_effect, shader_source_effect, compile_shader_effect, delete_shader_effect, delete_program_effect, attach_shader_effect, detach_shader_effect, bind_attrib_location_effect, can_link, link_program_effect, failed_link, validate_program_effect, validate_unlinked_effect, use_program_effect}
 use Rattle.gl_plain.specs.subjects.Uniforms.{uniform_effect}
 use Rattle.gl_plain.specs.declared.programs.Program.{Program}
 use Rattle.gl_plain.specs.Oracle.{Oracle, first, behind, behind_all}
 use Rattle.gl_plain.specs.State.{EsState}
-use Rattle.gl_plain.specs.Spaces.{Space, Buffers, names_in, with_names, with_name, numbers_in, with_numbers}
+use Rattle.gl_plain.specs.Spaces.{Space, Buffers, Textures, names_in, with_names, with_name, numbers_in, with_numbers}
 use Rattle.gl_plain.specs.Outcome.{Outcome, leaves, with_error}
 use Rattle.gl_plain.specs.object.Commands.{object_call, names_given}
 
@@ -55,6 +56,11 @@ buffer_deleted_by s id (Some x) = record s { buffers = without_buffer s.buffers 
 abbrev pub buffers_deleted : EsState → List ℕ → EsState
 buffers_deleted s [] = s
 buffers_deleted s (id ∷ ids) = buffers_deleted (buffer_deleted_by s id (map.get s.buffers.names id)) ids
+
+-- the textures of these names are deleted, in order; 0 and names that are not in use are ignored
+abbrev pub textures_deleted : TextureTables → List ℕ → TextureTables
+textures_deleted t [] = t
+textures_deleted t (id ∷ ids) = textures_deleted (delete_textures_effect t id) ids
 
 -- the state with other programs, which asks nothing
 abbrev pub with_programs : EsState → ProgramTables → EsState
@@ -100,6 +106,10 @@ object_outcome s names (calls.BufferData target size «data» usage) o =
 object_outcome s names (calls.BufferSubData target offset size «data») o =
     leaves (record s { buffers = buffer_sub_data_effect s.buffers target (natural offset) (bytes_of «data» size) }) o
 object_outcome s names (calls.DeleteBuffers buffers) o = leaves (buffers_deleted s buffers) o
+object_outcome s names (calls.GenTextures count) o = gen_outcome Textures s names o
+object_outcome s names (calls.BindTexture target texture) o =
+    bind_outcome Textures (λ t. record t { textures = bind_texture_effect t.textures target texture }) s texture o (map.get s.textures.names texture)
+object_outcome s names (calls.DeleteTextures textures) o = leaves (record s { textures = textures_deleted s.textures textures }) o
 object_outcome s names (calls.VertexAttrib4f index x y z w) o =
     leaves (record s { attribs = vertex_attrib_4f_effect s.attribs index (x.0 ∷ y.0 ∷ z.0 ∷ w.0 ∷ []) }) o
 object_outcome s names (calls.VertexAttribPointer index size kind normalized stride (Number offset)) o =
@@ -132,6 +142,9 @@ object_reply (BindBuffer target id) r = r
 object_reply (BufferData target size usage words) r = r
 object_reply (BufferSubData target offset size words) r = r
 object_reply (DeleteBuffers id) r = r
+object_reply (GenTextures id) r = reply.None
+object_reply (BindTexture target id) r = r
+object_reply (DeleteTextures id) r = r
 object_reply (VertexAttrib4f index x y z w) r = r
 object_reply (VertexAttribPointer index a) r = r
 object_reply (EnableVertexAttribArray index) r = r

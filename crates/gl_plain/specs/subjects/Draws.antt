@@ -26,12 +26,18 @@ use Rattle.gl_plain.specs.declared.draws.UnitView.{UnitView}
 use Rattle.gl_plain.specs.Words.{is_negative, natural}
 use Rattle.gl_plain.specs.subjects.Attributes.{opening_attribute}
 use Rattle.gl_plain.specs.subjects.Links.{columns, words_of}
-use Rattle.gl_plain.specs.subjects.Images.{Screen, IsScreenWritten}
+use Rattle.gl_plain.specs.declared.textures.LevelView.{LevelView}
+use Rattle.gl_plain.specs.declared.textures.ImagePlace.{ImagePlace}
+use Rattle.gl_plain.specs.declared.textures.Texture.{Texture}
+use Rattle.gl_plain.specs.subjects.Completeness.{is_complete, sampled_places}
+use Rattle.gl_plain.specs.subjects.Textures.{TextureObjects, unit_at, bound_in, texture_at, level_at}
+use Rattle.gl_plain.specs.subjects.Images.{Pixel, Zero, Contents, IsScreenWritten, AreWritten}
 
--- what a draw reads: the buffers by number, the buffer of indices, the vertex attributes, and the executable that is in use
+-- what a draw reads: the buffers by number, the buffer of indices, the textures, the vertex attributes, and the executable that is in use
 pub record Sources : Type 0 where
   pub buffers : table.FinMap nat_cmp Buffer
   pub element : ℕ
+  pub textures : TextureObjects
   pub attribs : VertexAttributes
   pub executable : Option Executable
 
@@ -65,7 +71,7 @@ names_unit kind unit [] values = false
 names_unit kind unit (u ∷ us) values =
     ((u.kind.0 == kind.0) && list_any (λ word. word == unit) (take (u.size * words_of u.kind) values)) || names_unit kind unit us (drop (u.size * words_of u.kind) values)
 
--- a unit as the samplers of what is in use name it; no texture is complete yet
+-- a unit as the samplers of what is in use name it, without its texture
 abbrev pub unit_view : Option Executable → ℕ → UnitView
 unit_view None unit = record { flat = false; cube = false; complete = false; attached = false }
 unit_view (Some e) unit = record {
@@ -82,6 +88,36 @@ units_from e unit (suc n) = unit_view e unit ∷ units_from e (unit + 1) n
 
 abbrev pub all_units : Option Executable → List UnitView
 all_units e = units_from e 0 (LAST_UNIT + 1)
+
+-- Textures
+
+-- a sampler names the unit
+abbrev pub is_sampled : UnitView → Bool
+is_sampled u = u.flat || u.cube
+
+-- the number of the texture that a unit samples: where it is named as a cube map alone, its cube map, and else its flat texture
+abbrev pub samples_cube : UnitView → Bool
+samples_cube u = u.cube && not u.flat
+
+abbrev pub sampled_number : TextureObjects → ℕ → UnitView → ℕ
+sampled_number t unit u = bound_in (unit_at t.units unit) (samples_cube u)
+
+-- that texture
+abbrev pub sampled_texture : TextureObjects → ℕ → UnitView → Option Texture
+sampled_texture t unit u = texture_at t (sampled_number t unit u) (samples_cube u)
+
+abbrev pub is_complete_texture : Option Texture → Bool
+is_complete_texture None = false
+is_complete_texture (Some x) = is_complete x
+
+-- the units from this one on, with whether they sample a texture that is complete
+abbrev pub with_textures : TextureObjects → ℕ → List UnitView → List UnitView
+with_textures t unit [] = []
+with_textures t unit (u ∷ units) = record u { complete = is_sampled u && is_complete_texture (sampled_texture t unit u) } ∷ with_textures t (unit + 1) units
+
+-- all units, as the samplers name them and the textures are
+abbrev pub units_viewed : Sources → List UnitView
+units_viewed s = with_textures s.textures 0 (all_units s.executable)
 
 -- Arrays
 
@@ -171,7 +207,7 @@ draw_view s mode i count = record {
   indexed = indices_viewed s count i;
   arrays = map (array_view s.buffers) s.attribs.attributes;
   used = used_bits (attributes_in s.executable);
-  units = all_units s.executable;
+  units = units_viewed s;
   status = FRAMEBUFFER_COMPLETE;
   program = is_some s.executable;
 }
@@ -194,9 +230,6 @@ array_fails used last location a =
 abbrev pub any_array_fails : ℕ → ℕ → ℕ → List ArrayView → Bool
 any_array_fails used last location [] = false
 any_array_fails used last location (a ∷ arrays) = array_fails used last location a || any_array_fails used last (location + 1) arrays
-
-abbrev pub is_sampled : UnitView → Bool
-is_sampled u = u.flat || u.cube
 
 -- two kinds of samplers name the unit, or it samples what is drawn to
 abbrev pub unit_fails : UnitView → Bool
@@ -278,18 +311,63 @@ abbrev pub elements_from : ℕ → ℕ → List ℕ
 elements_from first zero = []
 elements_from first (suc n) = first ∷ elements_from (first + 1) n
 
--- what a unit samples: black, where its texture is not complete; none is yet
+-- The images that are sampled
+
+abbrev pub places_of : ℕ → Option Texture → List ImagePlace
+places_of number None = []
+places_of number (Some x) = sampled_places number x
+
+-- those of a unit that samples a complete texture
+abbrev pub unit_places : TextureObjects → ℕ → UnitView → List ImagePlace
+unit_places t unit u = if u.complete then places_of (sampled_number t unit u) (sampled_texture t unit u) else []
+
+-- those of the units from this one on, rising
+abbrev pub places_from : TextureObjects → ℕ → List UnitView → List ImagePlace
+places_from t unit [] = []
+places_from t unit (u ∷ units) = unit_places t unit u ++ places_from t (unit + 1) units
+
+-- those of all units
+abbrev pub drawn_places : Sources → List ImagePlace
+drawn_places s = places_from s.textures 0 (units_viewed s)
+
+-- an image in place of its name: what it is, and its pixels, which are zero outside
+pub record ImageContents : Type 0 where
+  pub view : Option LevelView
+  pub pixel : ℕ → ℕ → Pixel
+
+abbrev pub pixels_in : Option LevelView → (ℕ → ℕ → Pixel) → ℕ → ℕ → Pixel
+pixels_in None px x y = Zero
+pixels_in (Some v) px x y = if nat_lt x v.width && nat_lt y v.height then px x y else Zero
+
+abbrev pub image_at : TextureObjects → Contents → ImagePlace → ImageContents
+image_at t k place = record { view = level_at t place; pixel = pixels_in (level_at t place) (k.images place) }
+
+-- what a unit samples: black, where its texture is not complete; else how it is filtered and wraps, and its images
 pub data Sample : Type 0 where
   Black : Sample
+  Sampled : (min mag wrap_s wrap_t : GlEnum) (images : List ImageContents) → Sample
 
--- what the units sample that are sampled, rising
-abbrev pub samples_of : List UnitView → List Sample
-samples_of [] = []
-samples_of (u ∷ units) = (if is_sampled u then Black ∷ [] else []) ++ samples_of units
+abbrev pub sample_by : TextureObjects → Contents → ℕ → Option Texture → Sample
+sample_by t k number None = Black
+sample_by t k number (Some x) = Sampled x.min x.mag x.wrap_s x.wrap_t (map (image_at t k) (sampled_places number x))
+
+abbrev pub sample_of : TextureObjects → Contents → ℕ → UnitView → Sample
+sample_of t k unit u = if u.complete then sample_by t k (sampled_number t unit u) (sampled_texture t unit u) else Black
+
+-- what the units sample that are sampled, rising from this one on
+abbrev pub samples_from : TextureObjects → Contents → ℕ → List UnitView → List Sample
+samples_from t k unit [] = []
+samples_from t k unit (u ∷ units) =
+    (if is_sampled u then sample_of t k unit u ∷ [] else []) ++ samples_from t k (unit + 1) units
+
+abbrev pub samples_of : Sources → Contents → List Sample
+samples_of s k = samples_from s.textures k 0 (units_viewed s)
 
 -- The driver calls
 
--- the rules refuse nothing, something is drawn, and the mask has the bits of the units that read as black; all images were written
-pub record IsDrawAllowed (check : Result DrawPlan GlError) (black : ℕ) (screen : Screen) : Type 0 where
+-- the rules refuse nothing, something is drawn, and the mask has the bits of the units that read as black; all images that are sampled or drawn
+-- to were written
+pub record IsDrawAllowed (s : Sources) (k : Contents) (check : Result DrawPlan GlError) (black : ℕ) : Type 0 where
   pub draws : check ≡ Ok (record { draw = true; black = black })
-  pub written : IsScreenWritten screen
+  pub sampled : AreWritten s.textures k (drawn_places s)
+  pub written : IsScreenWritten k.screen

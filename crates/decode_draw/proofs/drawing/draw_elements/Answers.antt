@@ -1,4 +1,4 @@
-use Rattle.std.proofs.Common.{◌≡◌, ◌∙◌, [], ◌∷◌, refl, rules, of_z, to_z, sym, true, false}
+use Rattle.std.proofs.Common.{◌≡◌, ◌∙◌, [], ◌∷◌, refl, rules, of_z, to_z, true, false}
 use Rattle.std.specs.Int.{w32}
 use Rattle.gl_plain.specs.declared.driver_calls.DriverCall.TheVariants.{Draw}
 use Rattle.gl_plain.specs.declared.driver_calls.DrawDriver.TheVariants.{DrawElements}

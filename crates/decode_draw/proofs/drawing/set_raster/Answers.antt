@@ -1,4 +1,4 @@
-use Rattle.std.proofs.Common.{◌≡◌, ◌∙◌, ℕ, List, refl, sym, ap}
+use Rattle.std.proofs.Common.{◌≡◌, ◌∙◌, refl, sym, ap}
 use Rattle.gl_plain.specs.declared.calls.Reply.TheVariants as reply
 use Rattle.gl_plain.specs.declared.driver_calls.DriverCall.TheVariants.{Draw}
 use Rattle.gl_plain.specs.declared.driver_calls.DrawDriver.TheVariants.{SetRaster}

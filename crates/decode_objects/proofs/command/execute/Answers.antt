@@ -17,6 +17,9 @@ use Rattle.decode_objects.proofs.command.execute.Goals as goal
 pub bind_buffer-requires-clause-may : goal.bind_buffer-requires-clause-may
 bind_buffer-requires-clause-may g c = rw c.in-BindBuffer.is at c.requires.may
 
+pub bind_texture-requires-clause-may : goal.bind_texture-requires-clause-may
+bind_texture-requires-clause-may g c = rw c.in-BindTexture.is at c.requires.may
+
 pub buffer_data-requires-clause-allowed : goal.buffer_data-requires-clause-allowed
 buffer_data-requires-clause-allowed g c =
     let may = (rw c.in-BufferData.is at c.requires.may) default_answers [] (Object (BufferData c.in-BufferData.target (bytes_of (payload_of c.in-BufferData.words c.args.payload.now) c.in-BufferData.size) c.in-BufferData.usage)) [] tt refl in
@@ -30,39 +33,51 @@ buffer_sub_data-requires-clause-allowed g c =
 pub delete_buffers-requires : goal.delete_buffers-requires
 delete_buffers-requires g c = record { may = rw c.in-DeleteBuffers.is at c.requires.may }
 
+pub delete_textures-requires : goal.delete_textures-requires
+delete_textures-requires g c = record { may = rw c.in-DeleteTextures.is at c.requires.may }
+
 pub returns-in_err-bytes-in-BufferData : goal.returns-in_err-bytes-in-BufferData
 returns-in_err-bytes-in-BufferData g c = passes_at_once g.met.D.Driver.grown_itself c.from_residual.result c.from_residual.ensures.1
 
 pub returns-in_ok-bytes-in-BufferData : goal.returns-in_ok-bytes-in-BufferData
 returns-in_ok-bytes-in-BufferData g c =
     let same : c.in_ok-bytes-in-BufferData.bytes ≡ bytes_of (payload_of c.in-BufferData.words c.args.payload.now) c.in-BufferData.size = search rules in
-    rw c.in-BufferData.is (widens (objects_in c.args.buffers.now c.args.programs.now c.args.attribs.now c.args.errors.now) (c.buffer_data.ensures c.in-BufferData.size c.in-BufferData.words c.args.payload.now same))
+    rw c.in-BufferData.is (widens (objects_in c.args.buffers.now c.args.textures.now c.args.programs.now c.args.attribs.now c.args.errors.now) (c.buffer_data.ensures c.in-BufferData.size c.in-BufferData.words c.args.payload.now same))
 
 pub returns-in-GenBuffers : goal.returns-in-GenBuffers
-returns-in-GenBuffers g c = rw c.in-GenBuffers.is (widens (objects_in c.args.buffers.now c.args.programs.now c.args.attribs.now c.args.errors.now) c.gen_buffers.ensures)
+returns-in-GenBuffers g c = rw c.in-GenBuffers.is (widens (objects_in c.args.buffers.now c.args.textures.now c.args.programs.now c.args.attribs.now c.args.errors.now) c.gen_buffers.ensures)
+
+pub returns-in-GenTextures : goal.returns-in-GenTextures
+returns-in-GenTextures g c = rw c.in-GenTextures.is (widens (objects_in c.args.buffers.now c.args.textures.now c.args.programs.now c.args.attribs.now c.args.errors.now) c.gen_textures.ensures)
 
 pub returns-in-BindBuffer : goal.returns-in-BindBuffer
-returns-in-BindBuffer g c = rw c.in-BindBuffer.is (widens (objects_in c.args.buffers.now c.args.programs.now c.args.attribs.now c.args.errors.now) c.bind_buffer.ensures)
+returns-in-BindBuffer g c = rw c.in-BindBuffer.is (widens (objects_in c.args.buffers.now c.args.textures.now c.args.programs.now c.args.attribs.now c.args.errors.now) c.bind_buffer.ensures)
+
+pub returns-in-BindTexture : goal.returns-in-BindTexture
+returns-in-BindTexture g c = rw c.in-BindTexture.is (widens (objects_in c.args.buffers.now c.args.textures.now c.args.programs.now c.args.attribs.now c.args.errors.now) c.bind_texture.ensures)
 
 pub returns-in-BufferSubData : goal.returns-in-BufferSubData
 returns-in-BufferSubData g c =
     let same : to_z w32 (of_z w32 c.in-BufferSubData.offset) ≡ c.in-BufferSubData.offset = search rules in
-    rw (c.in-BufferSubData.is, ← same) (widens (objects_in c.args.buffers.now c.args.programs.now c.args.attribs.now c.args.errors.now) (c.buffer_sub_data.ensures c.in-BufferSubData.size c.in-BufferSubData.words))
+    rw (c.in-BufferSubData.is, ← same) (widens (objects_in c.args.buffers.now c.args.textures.now c.args.programs.now c.args.attribs.now c.args.errors.now) (c.buffer_sub_data.ensures c.in-BufferSubData.size c.in-BufferSubData.words))
 
 pub returns-in-DeleteBuffers : goal.returns-in-DeleteBuffers
-returns-in-DeleteBuffers g c = rw c.in-DeleteBuffers.is (widens (objects_in c.args.buffers.now c.args.programs.now c.args.attribs.now c.args.errors.now) c.delete_buffers.ensures)
+returns-in-DeleteBuffers g c = rw c.in-DeleteBuffers.is (widens (objects_in c.args.buffers.now c.args.textures.now c.args.programs.now c.args.attribs.now c.args.errors.now) c.delete_buffers.ensures)
+
+pub returns-in-DeleteTextures : goal.returns-in-DeleteTextures
+returns-in-DeleteTextures g c = rw c.in-DeleteTextures.is (widens (objects_in c.args.buffers.now c.args.textures.now c.args.programs.now c.args.attribs.now c.args.errors.now) c.delete_textures.ensures)
 
 pub returns-in-VertexAttrib4f : goal.returns-in-VertexAttrib4f
-returns-in-VertexAttrib4f g c = rw c.in-VertexAttrib4f.is (widens (objects_in c.args.buffers.now c.args.programs.now c.args.attribs.now c.args.errors.now) c.vertex_attrib_4f.ensures)
+returns-in-VertexAttrib4f g c = rw c.in-VertexAttrib4f.is (widens (objects_in c.args.buffers.now c.args.textures.now c.args.programs.now c.args.attribs.now c.args.errors.now) c.vertex_attrib_4f.ensures)
 
 pub returns-in-VertexAttribPointer : goal.returns-in-VertexAttribPointer
-returns-in-VertexAttribPointer g c = rw c.in-VertexAttribPointer.is (widens (objects_in c.args.buffers.now c.args.programs.now c.args.attribs.now c.args.errors.now) c.vertex_attrib_pointer.ensures)
+returns-in-VertexAttribPointer g c = rw c.in-VertexAttribPointer.is (widens (objects_in c.args.buffers.now c.args.textures.now c.args.programs.now c.args.attribs.now c.args.errors.now) c.vertex_attrib_pointer.ensures)
 
 pub returns-in-EnableVertexAttribArray : goal.returns-in-EnableVertexAttribArray
-returns-in-EnableVertexAttribArray g c = rw c.in-EnableVertexAttribArray.is (widens (objects_in c.args.buffers.now c.args.programs.now c.args.attribs.now c.args.errors.now) c.enable_vertex_attrib_array.ensures)
+returns-in-EnableVertexAttribArray g c = rw c.in-EnableVertexAttribArray.is (widens (objects_in c.args.buffers.now c.args.textures.now c.args.programs.now c.args.attribs.now c.args.errors.now) c.enable_vertex_attrib_array.ensures)
 
 pub returns-in-DisableVertexAttribArray : goal.returns-in-DisableVertexAttribArray
-returns-in-DisableVertexAttribArray g c = rw c.in-DisableVertexAttribArray.is (widens (objects_in c.args.buffers.now c.args.programs.now c.args.attribs.now c.args.errors.now) c.disable_vertex_attrib_array.ensures)
+returns-in-DisableVertexAttribArray g c = rw c.in-DisableVertexAttribArray.is (widens (objects_in c.args.buffers.now c.args.textures.now c.args.programs.now c.args.attribs.now c.args.errors.now) c.disable_vertex_attrib_array.ensures)
 
 pub shader_source-requires : goal.shader_source-requires
 shader_source-requires g c =
@@ -134,43 +149,43 @@ uniform-requires-clause-may g c =
     (rw c.in-Uniform.is at c.requires.may)
 
 pub returns-in-CreateShader : goal.returns-in-CreateShader
-returns-in-CreateShader g c = rw c.in-CreateShader.is (widens (objects_in c.args.buffers.now c.args.programs.now c.args.attribs.now c.args.errors.now) c.create_shader.ensures)
+returns-in-CreateShader g c = rw c.in-CreateShader.is (widens (objects_in c.args.buffers.now c.args.textures.now c.args.programs.now c.args.attribs.now c.args.errors.now) c.create_shader.ensures)
 
 pub returns-in-ShaderSource : goal.returns-in-ShaderSource
-returns-in-ShaderSource g c = rw c.in-ShaderSource.is (widens (objects_in c.args.buffers.now c.args.programs.now c.args.attribs.now c.args.errors.now) (c.shader_source.ensures c.in-ShaderSource.words))
+returns-in-ShaderSource g c = rw c.in-ShaderSource.is (widens (objects_in c.args.buffers.now c.args.textures.now c.args.programs.now c.args.attribs.now c.args.errors.now) (c.shader_source.ensures c.in-ShaderSource.words))
 
 pub returns-in-CompileShader : goal.returns-in-CompileShader
-returns-in-CompileShader g c = rw c.in-CompileShader.is (widens (objects_in c.args.buffers.now c.args.programs.now c.args.attribs.now c.args.errors.now) c.compile_shader.ensures)
+returns-in-CompileShader g c = rw c.in-CompileShader.is (widens (objects_in c.args.buffers.now c.args.textures.now c.args.programs.now c.args.attribs.now c.args.errors.now) c.compile_shader.ensures)
 
 pub returns-in-DeleteShader : goal.returns-in-DeleteShader
-returns-in-DeleteShader g c = rw c.in-DeleteShader.is (widens (objects_in c.args.buffers.now c.args.programs.now c.args.attribs.now c.args.errors.now) c.delete_shader.ensures)
+returns-in-DeleteShader g c = rw c.in-DeleteShader.is (widens (objects_in c.args.buffers.now c.args.textures.now c.args.programs.now c.args.attribs.now c.args.errors.now) c.delete_shader.ensures)
 
 pub returns-in-CreateProgram : goal.returns-in-CreateProgram
-returns-in-CreateProgram g c = rw c.in-CreateProgram.is (widens (objects_in c.args.buffers.now c.args.programs.now c.args.attribs.now c.args.errors.now) c.create_program.ensures)
+returns-in-CreateProgram g c = rw c.in-CreateProgram.is (widens (objects_in c.args.buffers.now c.args.textures.now c.args.programs.now c.args.attribs.now c.args.errors.now) c.create_program.ensures)
 
 pub returns-in-AttachShader : goal.returns-in-AttachShader
-returns-in-AttachShader g c = rw c.in-AttachShader.is (widens (objects_in c.args.buffers.now c.args.programs.now c.args.attribs.now c.args.errors.now) c.attach_shader.ensures)
+returns-in-AttachShader g c = rw c.in-AttachShader.is (widens (objects_in c.args.buffers.now c.args.textures.now c.args.programs.now c.args.attribs.now c.args.errors.now) c.attach_shader.ensures)
 
 pub returns-in-DetachShader : goal.returns-in-DetachShader
-returns-in-DetachShader g c = rw c.in-DetachShader.is (widens (objects_in c.args.buffers.now c.args.programs.now c.args.attribs.now c.args.errors.now) c.detach_shader.ensures)
+returns-in-DetachShader g c = rw c.in-DetachShader.is (widens (objects_in c.args.buffers.now c.args.textures.now c.args.programs.now c.args.attribs.now c.args.errors.now) c.detach_shader.ensures)
 
 pub returns-in-BindAttribLocation : goal.returns-in-BindAttribLocation
-returns-in-BindAttribLocation g c = rw c.in-BindAttribLocation.is (widens (objects_in c.args.buffers.now c.args.programs.now c.args.attribs.now c.args.errors.now) (c.bind_attrib_location.ensures c.in-BindAttribLocation.words))
+returns-in-BindAttribLocation g c = rw c.in-BindAttribLocation.is (widens (objects_in c.args.buffers.now c.args.textures.now c.args.programs.now c.args.attribs.now c.args.errors.now) (c.bind_attrib_location.ensures c.in-BindAttribLocation.words))
 
 pub returns-in-LinkProgram : goal.returns-in-LinkProgram
-returns-in-LinkProgram g c = rw c.in-LinkProgram.is (widens (objects_in c.args.buffers.now c.args.programs.now c.args.attribs.now c.args.errors.now) c.link_program.ensures)
+returns-in-LinkProgram g c = rw c.in-LinkProgram.is (widens (objects_in c.args.buffers.now c.args.textures.now c.args.programs.now c.args.attribs.now c.args.errors.now) c.link_program.ensures)
 
 pub returns-in-ValidateProgram : goal.returns-in-ValidateProgram
-returns-in-ValidateProgram g c = rw c.in-ValidateProgram.is (widens (objects_in c.args.buffers.now c.args.programs.now c.args.attribs.now c.args.errors.now) c.validate_program.ensures)
+returns-in-ValidateProgram g c = rw c.in-ValidateProgram.is (widens (objects_in c.args.buffers.now c.args.textures.now c.args.programs.now c.args.attribs.now c.args.errors.now) c.validate_program.ensures)
 
 pub returns-in-UseProgram : goal.returns-in-UseProgram
-returns-in-UseProgram g c = rw c.in-UseProgram.is (widens (objects_in c.args.buffers.now c.args.programs.now c.args.attribs.now c.args.errors.now) c.use_program.ensures)
+returns-in-UseProgram g c = rw c.in-UseProgram.is (widens (objects_in c.args.buffers.now c.args.textures.now c.args.programs.now c.args.attribs.now c.args.errors.now) c.use_program.ensures)
 
 pub returns-in-DeleteProgram : goal.returns-in-DeleteProgram
-returns-in-DeleteProgram g c = rw c.in-DeleteProgram.is (widens (objects_in c.args.buffers.now c.args.programs.now c.args.attribs.now c.args.errors.now) c.delete_program.ensures)
+returns-in-DeleteProgram g c = rw c.in-DeleteProgram.is (widens (objects_in c.args.buffers.now c.args.textures.now c.args.programs.now c.args.attribs.now c.args.errors.now) c.delete_program.ensures)
 
 pub returns-in-Uniform : goal.returns-in-Uniform
 returns-in-Uniform g c =
     let place : to_z w32 (of_z w32 c.in-Uniform.location) ≡ c.in-Uniform.location = search rules in
     let same : to_z w32 (of_z w32 c.in-Uniform.count) ≡ c.in-Uniform.count = search rules in
-    rw (c.in-Uniform.is, ← place, ← same) (widens (objects_in c.args.buffers.now c.args.programs.now c.args.attribs.now c.args.errors.now) (c.uniform.ensures c.in-Uniform.transpose c.in-Uniform.words))
+    rw (c.in-Uniform.is, ← place, ← same) (widens (objects_in c.args.buffers.now c.args.textures.now c.args.programs.now c.args.attribs.now c.args.errors.now) (c.uniform.ensures c.in-Uniform.transpose c.in-Uniform.words))

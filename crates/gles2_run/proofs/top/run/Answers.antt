@@ -1,5 +1,5 @@
 use Rattle.std.specs.Prelude.{map, string_bytes}
-use Rattle.gles2_run.proofs.Exact.{is_done, is_bad_line, is_stopped}
+use Rattle.gles2_run.proofs.Exact.{has_bad_line, is_bad_line, is_done, is_stopped, is_too_long, ran, ran_short, ran_to_end, ran_to_loss, ran_to_stop}
 use Rattle.gles2_run.proofs.top.run.Goals as goal
 
 pub returns-clause-done_exact : goal.returns-clause-done_exact
@@ -19,3 +19,38 @@ returns-clause-stopped_exact g c = λ input script stop told short text stopped.
     is_stopped (map string_bytes c.args.words.now) (g.I.Source.left c.args.source.now) (g.I.Source.left c.work-end.new.source) (g.I.Source.ended c.work-end.new.source) (g.I.Source.faults c.args.source.now) (g.I.Source.faults c.work-end.new.source)
     c.work-end.new.desk c.close-status.result (g.O.Sink.held c.args.sink.now) (g.O.Sink.held c.close-status.new.sink) (g.O.Sink.faults c.args.sink.now) (g.O.Sink.faults c.close-status.new.sink)
     input told short c.work-end.result script stop c.work-end.ensures c.close-status.ensures.closes text stopped
+
+pub returns-clause-ring_run : goal.returns-clause-ring_run
+returns-clause-ring_run g c =
+    ran (map string_bytes c.args.words.now) (g.I.Source.left c.args.source.now) (g.I.Source.left c.work-end.new.source) (g.I.Source.ended c.work-end.new.source) (g.I.Source.faults c.args.source.now) (g.I.Source.faults c.work-end.new.source)
+    c.work-end.new.desk c.close-status.result (g.O.Sink.held c.args.sink.now) (g.O.Sink.held c.close-status.new.sink) (g.O.Sink.faults c.args.sink.now) (g.O.Sink.faults c.close-status.new.sink) c.work-end.result c.work-end.ensures c.close-status.ensures.closes
+
+pub returns-clause-done : goal.returns-clause-done
+returns-clause-done g c =
+    ran_to_end (map string_bytes c.args.words.now) (g.I.Source.left c.args.source.now) (g.I.Source.left c.work-end.new.source) (g.I.Source.ended c.work-end.new.source) (g.I.Source.faults c.args.source.now) (g.I.Source.faults c.work-end.new.source)
+    c.work-end.new.desk c.close-status.result (g.O.Sink.held c.args.sink.now) (g.O.Sink.held c.close-status.new.sink) (g.O.Sink.faults c.args.sink.now) (g.O.Sink.faults c.close-status.new.sink) c.work-end.result c.work-end.ensures c.close-status.ensures.closes
+
+pub returns-clause-bad_line : goal.returns-clause-bad_line
+returns-clause-bad_line g c =
+    has_bad_line (map string_bytes c.args.words.now) (g.I.Source.left c.args.source.now) (g.I.Source.left c.work-end.new.source) (g.I.Source.ended c.work-end.new.source) (g.I.Source.faults c.args.source.now) (g.I.Source.faults c.work-end.new.source)
+    c.work-end.new.desk c.close-status.result (g.O.Sink.held c.args.sink.now) (g.O.Sink.held c.close-status.new.sink) (g.O.Sink.faults c.args.sink.now) (g.O.Sink.faults c.close-status.new.sink) c.work-end.result c.work-end.ensures c.close-status.ensures.closes
+
+pub returns-clause-stopped : goal.returns-clause-stopped
+returns-clause-stopped g c =
+    ran_to_stop (map string_bytes c.args.words.now) (g.I.Source.left c.args.source.now) (g.I.Source.left c.work-end.new.source) (g.I.Source.ended c.work-end.new.source) (g.I.Source.faults c.args.source.now) (g.I.Source.faults c.work-end.new.source)
+    c.work-end.new.desk c.close-status.result (g.O.Sink.held c.args.sink.now) (g.O.Sink.held c.close-status.new.sink) (g.O.Sink.faults c.args.sink.now) (g.O.Sink.faults c.close-status.new.sink) c.work-end.result c.work-end.ensures c.close-status.ensures.closes
+
+pub returns-clause-lost : goal.returns-clause-lost
+returns-clause-lost g c =
+    ran_to_loss (map string_bytes c.args.words.now) (g.I.Source.left c.args.source.now) (g.I.Source.left c.work-end.new.source) (g.I.Source.ended c.work-end.new.source) (g.I.Source.faults c.args.source.now) (g.I.Source.faults c.work-end.new.source)
+    c.work-end.new.desk c.close-status.result (g.O.Sink.held c.args.sink.now) (g.O.Sink.held c.close-status.new.sink) (g.O.Sink.faults c.args.sink.now) (g.O.Sink.faults c.close-status.new.sink) c.work-end.result c.work-end.ensures c.close-status.ensures.closes
+
+pub returns-clause-cut_short : goal.returns-clause-cut_short
+returns-clause-cut_short g c =
+    ran_short (map string_bytes c.args.words.now) (g.I.Source.left c.args.source.now) (g.I.Source.left c.work-end.new.source) (g.I.Source.ended c.work-end.new.source) (g.I.Source.faults c.args.source.now) (g.I.Source.faults c.work-end.new.source)
+    c.work-end.new.desk c.close-status.result (g.O.Sink.held c.args.sink.now) (g.O.Sink.held c.close-status.new.sink) (g.O.Sink.faults c.args.sink.now) (g.O.Sink.faults c.close-status.new.sink) c.work-end.result c.work-end.ensures c.close-status.ensures.closes
+
+pub returns-clause-too_long : goal.returns-clause-too_long
+returns-clause-too_long g c =
+    is_too_long (map string_bytes c.args.words.now) (g.I.Source.left c.args.source.now) (g.I.Source.left c.work-end.new.source) (g.I.Source.ended c.work-end.new.source) (g.I.Source.faults c.args.source.now) (g.I.Source.faults c.work-end.new.source)
+    c.work-end.new.desk c.close-status.result (g.O.Sink.held c.args.sink.now) (g.O.Sink.held c.close-status.new.sink) (g.O.Sink.faults c.args.sink.now) (g.O.Sink.faults c.close-status.new.sink) c.work-end.result c.work-end.ensures c.close-status.ensures.closes

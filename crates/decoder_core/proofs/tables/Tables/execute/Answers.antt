@@ -1,10 +1,12 @@
 use Rattle.std.proofs.Common.{sym, refl, ◌∙◌, Some, ap}
-use Rattle.gl_plain.specs.declared.commands.Command.TheVariants.{Noop, Bucket, Object, Draw, Query, SetToken}
+use Rattle.gl_plain.specs.declared.commands.Command.TheVariants.{Noop, Bucket, Object, Image, Draw, Query, SetToken}
+use Rattle.gl_plain.specs.subjects.Buckets.{breaks_bucket_rule}
 use Rattle.decoder_core.specs.Execution.{state_of}
 use Rattle.decode_draw.specs.States.{draws_in}
 use Rattle.decode_objects.specs.States.{objects_in}
-use Rattle.decoder_core.proofs.Payloads.{readable_bucket, given_object}
-use Rattle.decoder_core.proofs.Executions.{performs_alone, performs_lawfully, does_nothing}
+use Rattle.decode_images.specs.States.{images_in}
+use Rattle.decoder_core.proofs.Payloads.{readable_bucket, given_object, given_image}
+use Rattle.decoder_core.proofs.Executions.{performs_alone, performs_broken, performs_lawfully, does_nothing}
 use Rattle.decoder_core.proofs.tables.Tables.execute.Goals as goal
 
 pub returns-in-Some-Noop : goal.returns-in-Some-Noop
@@ -37,16 +39,37 @@ pub returns-in-Some : goal.returns-in-Some
 returns-in-Some g c =
     let spelled = sym (rw c.in-Some-Object.field-0-is at c.in-Some-Object.ensures) in
     let given = given_object c.args.command.now c.requires.readable (state_of c.args.self.now) c.in-Some-Object.object _ _ c.in-Some.payload.now spelled c.data_words.ensures c.as_slice-beside.ensures (sym c.in-Some.ensures.broken) c.in-Some.ensures.given in
-    let before = objects_in c.args.self.now.buffers c.args.self.now.programs c.args.self.now.attribs c.args.self.now.errors in
-    let after = objects_in c.execute_object.new.buffers c.execute_object.new.programs c.execute_object.new.attribs c.execute_object.new.errors in
+    let before = objects_in c.args.self.now.buffers c.args.self.now.textures c.args.self.now.programs c.args.self.now.attribs c.args.self.now.errors in
+    let after = objects_in c.execute_object.new.buffers c.execute_object.new.textures c.execute_object.new.programs c.execute_object.new.attribs c.execute_object.new.errors in
     performs_lawfully c.args.command.now (state_of c.args.self.now) c.args.driver.now c.requires.agrees (Object c.in-Some-Object.object) c.in-Some.payload.now before after _ c.execute_object.new.driver c.execute_object.result spelled given.whole given.is refl refl c.execute_object.ensures
+
+pub execute_image-requires-clause-given : goal.execute_image-requires-clause-given
+execute_image-requires-clause-given g c =
+    (given_image c.args.command.now c.requires.readable (state_of c.args.self.now) c.in-Some-Image.image _ _ c.in-Some-data_of.payload.now (sym (rw c.in-Some-Image.field-0-is at c.in-Some-Image.ensures)) c.data_words-in-Some-Image.ensures c.as_slice-beside-in-Some-Image.ensures
+    (sym c.in-Some-data_of.ensures.broken) c.in-Some-data_of.ensures.given).given
+
+pub execute_image-requires-clause-agrees : goal.execute_image-requires-clause-agrees
+execute_image-requires-clause-agrees g c = record { others = state_of c.args.self.now; agrees = c.requires.agrees }
+
+pub returns-in_default-data_of : goal.returns-in_default-data_of
+returns-in_default-data_of g c =
+    performs_broken c.args.command.now (state_of c.args.self.now) c.args.driver.now c.requires.agrees g.met.D.Driver.grown_itself (Image c.in-Some-Image.image) (sym (rw c.in-Some-Image.field-0-is at c.in-Some-Image.ensures))
+    (ap (breaks_bucket_rule c.args.self.now.buckets) (sym c.data_words-in-Some-Image.ensures) ∙ sym c.in_default-data_of.ensures.broken)
+
+pub returns-in-Some-data_of : goal.returns-in-Some-data_of
+returns-in-Some-data_of g c =
+    let spelled = sym (rw c.in-Some-Image.field-0-is at c.in-Some-Image.ensures) in
+    let given = given_image c.args.command.now c.requires.readable (state_of c.args.self.now) c.in-Some-Image.image _ _ c.in-Some-data_of.payload.now spelled c.data_words-in-Some-Image.ensures c.as_slice-beside-in-Some-Image.ensures (sym c.in-Some-data_of.ensures.broken) c.in-Some-data_of.ensures.given in
+    let before = images_in c.args.self.now.textures c.args.self.now.raster c.args.self.now.errors in
+    let after = images_in c.execute_image.new.textures c.args.self.now.raster c.execute_image.new.errors in
+    performs_lawfully c.args.command.now (state_of c.args.self.now) c.args.driver.now c.requires.agrees (Image c.in-Some-Image.image) c.in-Some-data_of.payload.now before after _ c.execute_image.new.driver c.execute_image.result spelled given.whole given.is refl refl c.execute_image.ensures
 
 pub execute_draw-requires : goal.execute_draw-requires
 execute_draw-requires g c = record { agrees = record { others = state_of c.args.self.now; agrees = c.requires.agrees } }
 
 pub returns-in-Some-Draw : goal.returns-in-Some-Draw
 returns-in-Some-Draw g c =
-    let before = draws_in c.args.self.now.buffers c.args.self.now.programs c.args.self.now.attribs c.args.self.now.raster c.args.self.now.errors in
-    let after = draws_in c.args.self.now.buffers c.args.self.now.programs c.args.self.now.attribs c.execute_draw.new.raster c.execute_draw.new.errors in
+    let before = draws_in c.args.self.now.buffers c.args.self.now.textures c.args.self.now.programs c.args.self.now.attribs c.args.self.now.raster c.args.self.now.errors in
+    let after = draws_in c.args.self.now.buffers c.execute_draw.new.textures c.args.self.now.programs c.args.self.now.attribs c.execute_draw.new.raster c.execute_draw.new.errors in
     performs_lawfully c.args.command.now (state_of c.args.self.now) c.args.driver.now c.requires.agrees (Draw c.in-Some-Draw.drawing) c.args.command.now.payload before after _ c.execute_draw.new.driver c.execute_draw.result
     (sym (rw c.in-Some-Draw.field-0-is at c.in-Some-Draw.ensures)) refl refl refl refl (c.execute_draw.ensures c.args.command.now.payload)

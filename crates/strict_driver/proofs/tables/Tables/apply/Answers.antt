@@ -3,7 +3,7 @@ use Rattle.gl_plain.specs.State.{opening_tables}
 use Rattle.gl_plain.specs.subjects.Images.{opening_contents}
 use Rattle.strict_driver.specs.TableState.{left_by}
 use Rattle.strict_driver.proofs.Kept.{where_ok}
-use Rattle.strict_driver.proofs.TableSteps.{at_once, settled, allowed_alone, answered_alone, object_follows, program_follows, drawing_follows}
+use Rattle.strict_driver.proofs.TableSteps.{at_once, settled, allowed_alone, answered_alone, image_allowed, object_follows, image_follows, program_follows, drawing_follows}
 use Rattle.strict_driver.proofs.tables.Tables.apply.Goals as goal
 
 pub apply_object-requires-clause-allowed : goal.apply_object-requires-clause-allowed
@@ -28,5 +28,17 @@ returns-in-Object-clause-ok c =
 pub returns-in-Program-clause-ok : goal.returns-in-Program-clause-ok
 returns-in-Program-clause-ok c = rw c.in-Program.is (program_follows (left_by c.args.self.now.surface c.args.journal.now).tables c.args.journal.now c.args.self.now c.in-Program.field-0 c.args.answer.now c.requires.follow)
 
+pub apply_image-requires : goal.apply_image-requires
+apply_image-requires c =
+    let t = (left_by c.args.self.now.surface c.args.journal.now).tables in
+    image_allowed c.args.journal.now c.args.self.now t c.in-Image.call (at_once t c.args.journal.now c.args.self.now c.requires.follow) (rw c.in-Image.is at c.requires.allowed)
+
+pub returns-in-Image-clause-ok : goal.returns-in-Image-clause-ok
+returns-in-Image-clause-ok c =
+    rw c.in-Image.is (where_ok c.apply_image.result (λ after.
+    image_follows (left_by c.args.self.now.surface c.args.journal.now).tables c.args.journal.now c.args.self.now c.apply_image.new.self c.in-Image.call c.args.answer.now c.requires.follow after)
+    c.apply_image.ensures.ok)
+
 pub returns-in-Draw-clause-ok : goal.returns-in-Draw-clause-ok
-returns-in-Draw-clause-ok c = rw c.in-Draw.is (drawing_follows (left_by c.args.self.now.surface c.args.journal.now).tables c.args.journal.now c.args.self.now c.in-Draw.field-0 c.args.answer.now c.requires.follow)
+returns-in-Draw-clause-ok c =
+    rw c.in-Draw.is (drawing_follows (left_by c.args.self.now.surface c.args.journal.now).tables c.args.journal.now c.args.self.now c.apply_draw.new.self c.in-Draw.call c.args.answer.now c.requires.follow c.apply_draw.ensures.state)

@@ -45,3 +45,9 @@ returns-in-VertexAttribPointer-clause-ok c t more =
     let size : FitsSigned w32 c.in-VertexAttribPointer.size = search rules in
     let stride : FitsSigned w32 c.in-VertexAttribPointer.stride = search rules in
     simp to_z-of_z at (c.point.ensures.state t js) ∙ ap (λ (call : ObjectDriver). after_object (state_of t js c.args.self.now) call c.args.answer.now) (sym c.in-VertexAttribPointer.is)
+
+pub returns-in_ok-give_texture-in-GenTexture-clause-ok : goal.returns-in_ok-give_texture-in-GenTexture-clause-ok
+returns-in_ok-give_texture-in-GenTexture-clause-ok c t more =
+    let entry : DriverEntry = record { call = Object c.args.call.now; answer = c.args.answer.now } in
+    let js : List DriverEntry = c.args.journal.now ++ entry ∷ more in
+    c.in_ok-give_texture-in-GenTexture.ensures.ok t js ∙ ap (λ (call : ObjectDriver). after_object (state_of t js c.args.self.now) call c.args.answer.now) (sym c.in-GenTexture.is)

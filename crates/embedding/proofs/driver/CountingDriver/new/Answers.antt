@@ -1,6 +1,0 @@
--- That no name was given.
-use Rattle.embedding.proofs.Calls.{counted_opening}
-use Rattle.embedding.proofs.driver.CountingDriver.new.Goals as goal
-
-pub invariant_of-result : goal.invariant_of-result
-invariant_of-result c = rw c.new.ensures (counted_opening c.args.surface)

@@ -1,0 +1,46 @@
+-- What is written of images behind a command on objects: a texture that is made has none, nor has one that is deleted.
+use Rattle.std.specs.Prelude.{ℕ, ◌==◌, if◌then◌else◌, Option, None, Some}
+use Rattle.std.specs.FinMap as map
+use Rattle.gl_plain.specs.declared.objects.Name.{Name}
+use Rattle.gl_plain.specs.declared.commands.ObjectCommand.{ObjectCommand}
+use Rattle.gl_plain.specs.declared.commands.ObjectCommand.TheVariants.{GenBuffers, BindBuffer, BufferData, BufferSubData, DeleteBuffers, GenTextures, BindTexture, DeleteTextures, VertexAttrib4f, VertexAttribPointer, EnableVertexAttribArray, DisableVertexAttribArray, CreateShader, ShaderSource, CompileShader, DeleteShader, CreateProgram, AttachShader, DetachShader, BindAttribLocation, LinkProgram, ValidateProgram, UseProgram, DeleteProgram, Uniform}
+use Rattle.gl_plain.specs.subjects.Images.{Covers, without_covers}
+use Rattle.gl_plain.specs.Oracle.{Oracle, first}
+use Rattle.gl_plain.specs.State.{EsState}
+
+-- by what the table has of the name, if anything
+abbrev pub deleted_covers : Covers → Option Name → Covers
+deleted_covers f None = f
+deleted_covers f (Some x) = without_covers f x.number
+
+-- by what the table has of the name, if anything: the object of a name is made at its first bind
+abbrev pub bound_covers : Covers → ℕ → Oracle → Option Name → Covers
+bound_covers f id o None = if id == 0 then f else without_covers f (first o.textures)
+bound_covers f id o (Some x) = if x.is_object then f else without_covers f x.number
+
+abbrev pub object_covers : EsState → ObjectCommand → Oracle → Covers → Covers
+object_covers s (GenBuffers id) o f = f
+object_covers s (BindBuffer target id) o f = f
+object_covers s (BufferData target size usage words) o f = f
+object_covers s (BufferSubData target offset size words) o f = f
+object_covers s (DeleteBuffers id) o f = f
+object_covers s (GenTextures id) o f = f
+object_covers s (BindTexture target id) o f = bound_covers f id o (map.get s.textures.names id)
+object_covers s (DeleteTextures id) o f = deleted_covers f (map.get s.textures.names id)
+object_covers s (VertexAttrib4f index x y z w) o f = f
+object_covers s (VertexAttribPointer index a) o f = f
+object_covers s (EnableVertexAttribArray index) o f = f
+object_covers s (DisableVertexAttribArray index) o f = f
+object_covers s (CreateShader id kind) o f = f
+object_covers s (ShaderSource shader words) o f = f
+object_covers s (CompileShader shader) o f = f
+object_covers s (DeleteShader shader) o f = f
+object_covers s (CreateProgram id) o f = f
+object_covers s (AttachShader program shader) o f = f
+object_covers s (DetachShader program shader) o f = f
+object_covers s (BindAttribLocation program index words) o f = f
+object_covers s (LinkProgram program) o f = f
+object_covers s (ValidateProgram program) o f = f
+object_covers s (UseProgram program) o f = f
+object_covers s (DeleteProgram program) o f = f
+object_covers s (Uniform location kind count transpose words) o f = f

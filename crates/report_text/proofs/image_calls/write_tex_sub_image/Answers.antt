@@ -1,0 +1,15 @@
+-- That a part of an image is written with its numbers as they are.
+use Rattle.std.proofs.Common.{rules, FitsSigned, w32}
+use Rattle.std.proofs.lemmas.Int.{to_z-of_z}
+use Rattle.report_text.specs.Calls.{image_text}
+use Rattle.report_text.proofs.image_calls.write_tex_sub_image.Goals as goal
+
+pub returns : goal.returns
+unfolding image_text
+returns c =
+    let level : FitsSigned w32 c.args.part.level = search rules in
+    let x : FitsSigned w32 c.args.part.x = search rules in
+    let y : FitsSigned w32 c.args.part.y = search rules in
+    let width : FitsSigned w32 c.args.part.width = search rules in
+    let height : FitsSigned w32 c.args.part.height = search rules in
+    simp to_z-of_z at c.write_named.ensures

@@ -1,0 +1,7 @@
+-- The lemmas that proofs share.
+pub mod Places
+pub mod MappedValues
+pub mod TablesBeside
+pub mod CoversBeside
+pub mod Numbers
+pub mod LevelsBehind

@@ -1,0 +1,8 @@
+-- The definitions that contracts cite.
+pub mod Kept
+pub mod Covered
+pub mod MappedValues
+pub mod Objects
+pub mod Lent
+pub mod Numbered
+pub mod Tables
