@@ -1,5 +1,5 @@
 //! Rows of pixels in client memory (OpenGL ES 2.0.25, section 3.6.1), which a driver is given without padding.
-ghost use Rattle.std.specs.Prelude.{◌≡◌, ◌≤◌, length, IfOk};
+ghost use Rattle.std.specs.Prelude.{◌≡◌, ◌≤◌, ◌*◌, length, IfOk, Ok, None};
 ghost use Rattle.gl_base.specs.declared.limits.TheConstants.{SIDE_LIMIT};
 ghost use Rattle.gl_base.specs.PixelSizes as sizes;
 ghost use Rattle.decode_images.specs.Unpadded.{bytes_or, IsLongEnough};
@@ -20,7 +20,8 @@ fn unpadded(
 ) -> Result<Option<Bytes>, AllocError>
     requires whole { IsLongEnough height rows.row rows.step (length bytes.now) }
     requires order { rows.row ≤ rows.step }
-    ensures { IfOk result (λ copied. bytes_or copied bytes.now ≡ sizes.rows_of height rows.row rows.step bytes.now) }
+    ensures rows { IfOk result (λ copied. bytes_or copied bytes.now ≡ sizes.rows_of height rows.row rows.step bytes.now) }
+    ensures uncopied { rows.row ≡ rows.step → result ≡ Ok None }
 {
     if rows.row == rows.step {
         return Ok(None);
@@ -34,7 +35,7 @@ fn unpadded(
     Ok(Some(Bytes::from_vec(all)))
 }
 
-/// The rows of an image in client memory, as `unpadded` gives them.
+/// The rows of an image in client memory, as `unpadded` gives them. Where rows have no padding, nothing is copied and no memory is asked for.
 #[tactic(auto, using(crate::proofs::Packed::long_enough))]
 pub fn client_rows(
     alloc: Global,
@@ -48,7 +49,8 @@ pub fn client_rows(
     requires aligned { (1 ≤ alignment) × (alignment ≤ 8) }
     requires side { width ≤ SIDE_LIMIT }
     requires whole { length bytes.now ≡ sizes.image_size width height (sizes.pixel_size format kind) alignment }
-    ensures { IfOk result (λ copied. bytes_or copied bytes.now ≡ sizes.unpadded width height (sizes.pixel_size format kind) alignment bytes.now) }
+    ensures rows { IfOk result (λ copied. bytes_or copied bytes.now ≡ sizes.unpadded width height (sizes.pixel_size format kind) alignment bytes.now) }
+    ensures uncopied { width * sizes.pixel_size format kind ≡ sizes.row_step (width * sizes.pixel_size format kind) alignment → result ≡ Ok None }
 {
     if pixel_bytes(format, kind).is_none() {
         // Pixels of no pair have no bytes, so there are no rows.

@@ -41,7 +41,7 @@ tex_image_2d-requires-2-clause-allowed g c =
     let some : (c.args.words.source == 0) ≡ false = grind (arith, nat_tests, c.if-words-eq0.false) in
     image_allowed c.args.image c.args.words c.args.payload.now (images_in c.args.textures.now c.args.raster.now c.args.errors.now) _ c.requires _
     (rows_given c.args.image c.args.words c.args.payload.now c.rows_or-rows.result.now c.args.raster.now.alignments.unpack some
-    (c.rows_or-rows.ensures ∙ c.in_ok-copied.ensures ∙ (λ i. unpadded ((c.natural.ensures ∙ ap natural width) i) ((c.natural-2.ensures ∙ ap natural height) i) (pixel_size c.args.image.format c.args.image.kind) (c.unpack_alignment.ensures.value i) c.args.payload.now)))
+    (c.rows_or-rows.ensures ∙ c.in_ok-copied.ensures.rows ∙ (λ i. unpadded ((c.natural.ensures ∙ ap natural width) i) ((c.natural-2.ensures ∙ ap natural height) i) (pixel_size c.args.image.format c.args.image.kind) (c.unpack_alignment.ensures.value i) c.args.payload.now)))
 
 pub returns : goal.returns
 returns g c =
@@ -51,4 +51,4 @@ returns g c =
     ends_own (Image (TexImage2D c.args.image c.args.words)) c.args.payload.now g.met.D.Driver.grown_itself g.met.D.Driver.grown_further (λ s. refl) (λ s. c.requires.fair) (λ s. c.requires.taken)
     (c.tex_image_2d-2.ensures c.args.words c.args.payload.now c.args.raster.now
     (rows_given c.args.image c.args.words c.args.payload.now c.rows_or-rows.result.now c.args.raster.now.alignments.unpack some
-    (c.rows_or-rows.ensures ∙ c.in_ok-copied.ensures ∙ (λ i. unpadded ((c.natural.ensures ∙ ap natural width) i) ((c.natural-2.ensures ∙ ap natural height) i) (pixel_size c.args.image.format c.args.image.kind) (c.unpack_alignment.ensures.value i) c.args.payload.now))))
+    (c.rows_or-rows.ensures ∙ c.in_ok-copied.ensures.rows ∙ (λ i. unpadded ((c.natural.ensures ∙ ap natural width) i) ((c.natural-2.ensures ∙ ap natural height) i) (pixel_size c.args.image.format c.args.image.kind) (c.unpack_alignment.ensures.value i) c.args.payload.now))))

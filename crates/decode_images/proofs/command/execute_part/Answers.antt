@@ -55,7 +55,7 @@ write_rows-requires g c =
     record {
       allowed = part_allowed c.args.part c.args.words c.args.payload.now c.args.textures.now c.args.raster.now no_errors c.place_bound-place.result c.part_rect.result
           (c.place_bound-place.ensures ∙ ap (place_bound (tables c.args.textures.now).objects c.args.part.target) (c.natural-3.ensures ∙ ap natural level)) c.part_rect.ensures (c.requires no_errors) c.in_ok-write_part.ensures.calls c.rows_or.result.now
-          (c.rows_or.ensures ∙ c.in_ok-copied.ensures ∙ (λ i. unpadded ((c.natural.ensures ∙ ap natural width) i) ((c.natural-2.ensures ∙ ap natural height) i) (pixel_size c.args.part.format c.args.part.kind) (c.unpack_alignment.ensures.value i) c.args.payload.now));
+          (c.rows_or.ensures ∙ c.in_ok-copied.ensures.rows ∙ (λ i. unpadded ((c.natural.ensures ∙ ap natural width) i) ((c.natural-2.ensures ∙ ap natural height) i) (pixel_size c.args.part.format c.args.part.kind) (c.unpack_alignment.ensures.value i) c.args.payload.now));
     }
 
 pub returns : goal.returns
@@ -65,5 +65,5 @@ returns g c errors =
     let level : to_z w32 (of_z w32 c.args.part.level) ≡ c.args.part.level = search rules in
     part_done c.args.part c.args.words c.args.payload.now c.args.textures.now c.args.raster.now errors c.place_bound-place.result c.part_rect.result
     (c.place_bound-place.ensures ∙ ap (place_bound (tables c.args.textures.now).objects c.args.part.target) (c.natural-3.ensures ∙ ap natural level)) c.part_rect.ensures (c.requires errors) c.in_ok-write_part.ensures.calls c.rows_or.result.now
-    (c.rows_or.ensures ∙ c.in_ok-copied.ensures ∙ (λ i. unpadded ((c.natural.ensures ∙ ap natural width) i) ((c.natural-2.ensures ∙ ap natural height) i) (pixel_size c.args.part.format c.args.part.kind) (c.unpack_alignment.ensures.value i) c.args.payload.now))
+    (c.rows_or.ensures ∙ c.in_ok-copied.ensures.rows ∙ (λ i. unpadded ((c.natural.ensures ∙ ap natural width) i) ((c.natural-2.ensures ∙ ap natural height) i) (pixel_size c.args.part.format c.args.part.kind) (c.unpack_alignment.ensures.value i) c.args.payload.now))
     g.met.D.Driver.grown_further c.write_part.new.textures c.in_ok-write_part.ensures.tables c.in_ok-write_part.ensures.covers c.write_rows.result (c.write_rows.ensures c.args.words c.args.payload.now)
