@@ -55,10 +55,20 @@ module _ (words : List (List ℕ)) (before now : Option (List ℕ)) (ended : Typ
   is_stopped ends.Lost script stop means closes text stopped = search rules
   is_stopped ends.NoMemory script stop means closes text stopped = search rules
 
+-- what a status says of the words, of the source and of the desk
+pub record Said (words : List (List ℕ)) (before now : Option (List ℕ)) (ended : Type 0) (desk : Desk) (status : ℕ) : Type 0 where
+  pub ring_run : IsTrue (is_run status) → (stop : Option Stop) × RanTo before now ended stop desk
+  pub done : status ≡ 0 → IsRing words × RanTo before now ended None desk
+  pub bad_line : status ≡ 3 → IsRing words × ((number : ℕ) × HasBadLine before now ended number)
+  pub stopped : status ≡ 6 → IsRing words × ((stop : Stop) × RanTo before now ended (Some stop) desk)
+  pub lost : status ≡ 8 → IsRing words × RanLost before now ended desk
+  pub cut_short : status ≡ 7 → (desk ≡ new_desk) ⊎ RanShort before now ended desk ⊎ RanLost before now ended desk ⊎ ((stop : Option Stop) × RanTo before now ended stop desk)
+  pub too_long : status ≡ 9 → IsRing words × IsTooLong before now
+
 -- what each status says
 module _ (words : List (List ℕ)) (before now : Option (List ℕ)) (ended : Type 0) (was is : ℕ) (desk : Desk) (status : ℕ) (held holds : Option (List ℕ)) (wrote writes : ℕ) where
   -- the script was run
-  pub ran : (end : End) → Means end words before now ended was is desk → Closes end desk status held holds wrote writes → IsTrue (is_run status) → (stop : Option Stop) × RanTo before now ended stop desk
+  ran : (end : End) → Means end words before now ended was is desk → Closes end desk status held holds wrote writes → IsTrue (is_run status) → (stop : Option Stop) × RanTo before now ended stop desk
   ran ends.Done means closes h = (None, means.1)
   ran ends.Usage means closes h = search rules
   ran ends.ReadFault means closes h = search rules
@@ -69,7 +79,7 @@ module _ (words : List (List ℕ)) (before now : Option (List ℕ)) (ended : Typ
   ran ends.NoMemory means closes h = search rules
 
   -- to its end
-  pub ran_to_end : (end : End) → Means end words before now ended was is desk → Closes end desk status held holds wrote writes → status ≡ 0 → IsRing words × RanTo before now ended None desk
+  ran_to_end : (end : End) → Means end words before now ended was is desk → Closes end desk status held holds wrote writes → status ≡ 0 → IsRing words × RanTo before now ended None desk
   ran_to_end ends.Done means closes h = means
   ran_to_end ends.Usage means closes h = search rules
   ran_to_end ends.ReadFault means closes h = search rules
@@ -80,7 +90,7 @@ module _ (words : List (List ℕ)) (before now : Option (List ℕ)) (ended : Typ
   ran_to_end ends.NoMemory means closes h = search rules
 
   -- a line is none
-  pub has_bad_line : (end : End) → Means end words before now ended was is desk → Closes end desk status held holds wrote writes → status ≡ 3 → IsRing words × ((number : ℕ) × HasBadLine before now ended number)
+  has_bad_line : (end : End) → Means end words before now ended was is desk → Closes end desk status held holds wrote writes → status ≡ 3 → IsRing words × ((number : ℕ) × HasBadLine before now ended number)
   has_bad_line ends.Done means closes h = search rules
   has_bad_line ends.Usage means closes h = search rules
   has_bad_line ends.ReadFault means closes h = search rules
@@ -91,7 +101,7 @@ module _ (words : List (List ℕ)) (before now : Option (List ℕ)) (ended : Typ
   has_bad_line ends.NoMemory means closes h = search rules
 
   -- to a malformed command
-  pub ran_to_stop : (end : End) → Means end words before now ended was is desk → Closes end desk status held holds wrote writes → status ≡ 6 → IsRing words × ((stop : Stop) × RanTo before now ended (Some stop) desk)
+  ran_to_stop : (end : End) → Means end words before now ended was is desk → Closes end desk status held holds wrote writes → status ≡ 6 → IsRing words × ((stop : Stop) × RanTo before now ended (Some stop) desk)
   ran_to_stop ends.Done means closes h = search rules
   ran_to_stop ends.Usage means closes h = search rules
   ran_to_stop ends.ReadFault means closes h = search rules
@@ -102,7 +112,7 @@ module _ (words : List (List ℕ)) (before now : Option (List ℕ)) (ended : Typ
   ran_to_stop ends.NoMemory means closes h = search rules
 
   -- to the loss of the driver
-  pub ran_to_loss : (end : End) → Means end words before now ended was is desk → Closes end desk status held holds wrote writes → status ≡ 8 → IsRing words × RanLost before now ended desk
+  ran_to_loss : (end : End) → Means end words before now ended was is desk → Closes end desk status held holds wrote writes → status ≡ 8 → IsRing words × RanLost before now ended desk
   ran_to_loss ends.Done means closes h = search rules
   ran_to_loss ends.Usage means closes h = search rules
   ran_to_loss ends.ReadFault means closes h = search rules
@@ -113,7 +123,7 @@ module _ (words : List (List ℕ)) (before now : Option (List ℕ)) (ended : Typ
   ran_to_loss ends.NoMemory means closes h = search rules
 
   -- to want of memory
-  pub ran_short : (end : End) → Means end words before now ended was is desk → Closes end desk status held holds wrote writes → status ≡ 7 → (desk ≡ new_desk) ⊎ RanShort before now ended desk ⊎ RanLost before now ended desk ⊎ ((stop : Option Stop) × RanTo before now ended stop desk)
+  ran_short : (end : End) → Means end words before now ended was is desk → Closes end desk status held holds wrote writes → status ≡ 7 → (desk ≡ new_desk) ⊎ RanShort before now ended desk ⊎ RanLost before now ended desk ⊎ ((stop : Option Stop) × RanTo before now ended stop desk)
   ran_short ends.Done means closes h = inr (inr (inr (None, means.1)))
   ran_short ends.Usage means closes h = inl means.3
   ran_short ends.ReadFault means closes h = inl means.3
@@ -124,7 +134,7 @@ module _ (words : List (List ℕ)) (before now : Option (List ℕ)) (ended : Typ
   ran_short ends.NoMemory means closes h = elim means.1 [ inl none ↦ inl none | inr front ↦ inr (inl front) ]
 
   -- the input is too long
-  pub is_too_long : (end : End) → Means end words before now ended was is desk → Closes end desk status held holds wrote writes → status ≡ 9 → IsRing words × IsTooLong before now
+  is_too_long : (end : End) → Means end words before now ended was is desk → Closes end desk status held holds wrote writes → status ≡ 9 → IsRing words × IsTooLong before now
   is_too_long ends.Done means closes h = search rules
   is_too_long ends.Usage means closes h = search rules
   is_too_long ends.ReadFault means closes h = search rules
@@ -133,3 +143,15 @@ module _ (words : List (List ℕ)) (before now : Option (List ℕ)) (ended : Typ
   is_too_long (ends.Stopped at) means closes h = search rules
   is_too_long ends.Lost means closes h = search rules
   is_too_long ends.NoMemory means closes h = search rules
+
+  -- all of it
+  pub says : (end : End) → Means end words before now ended was is desk → Closes end desk status held holds wrote writes → Said words before now ended desk status
+  says end means closes = record {
+    ring_run = ran end means closes;
+    done = ran_to_end end means closes;
+    bad_line = has_bad_line end means closes;
+    stopped = ran_to_stop end means closes;
+    lost = ran_to_loss end means closes;
+    cut_short = ran_short end means closes;
+    too_long = is_too_long end means closes;
+  }
