@@ -1,7 +1,7 @@
 -- Images in client memory: how many bytes they have, and where their rows lie (OpenGL ES 2.0.25, sections 3.6.1 and 3.6.2). Numbers are whole
 -- numbers without an end.
 use Prim.Native.Nat.{zero, suc}
-use Rattle.std.specs.Prelude.{ℕ, ◌+◌, ◌-◌, ◌*◌, ◌/◌, ◌==◌, ◌&&◌, ◌||◌, nat_le, if◌then◌else◌, List, [], ◌++◌, take, drop, Option, None, Some}
+use Rattle.std.specs.Prelude.{ℕ, ◌+◌, ◌-◌, ◌*◌, ◌/◌, ◌==◌, ◌&&◌, ◌||◌, nat_le, if◌then◌else◌, List, [], ◌++◌, take, drop, replicate, Option, None, Some}
 use Rattle.gl_base.specs.declared.gl_enum.GlEnum.{GlEnum}
 use Rattle.gl_base.specs.declared.enums.TheConstants.{UNSIGNED_BYTE}
 use Rattle.gl_base.specs.declared.limits.TheConstants.{DATA_LIMIT}
@@ -47,3 +47,12 @@ rows_of (suc n) row step bytes = take row bytes ++ rows_of n row step (drop step
 -- the pixels of an image in client memory, of so many bytes each, row by row, without padding
 abbrev pub unpadded : ℕ → ℕ → ℕ → ℕ → List ℕ → List ℕ
 unpadded width height each alignment bytes = rows_of height (width * each) (row_step (width * each) alignment) bytes
+
+-- so many rows of so many bytes, which follow one another, as rows with so many zeros between them
+abbrev pub with_padding : ℕ → ℕ → ℕ → List ℕ → List ℕ
+with_padding zero row gap bytes = []
+with_padding (suc n) row gap bytes = if n == 0 then take row bytes else take row bytes ++ replicate gap 0 ++ with_padding n row gap (drop row bytes)
+
+-- the pixels of an image, of so many bytes each, as client memory has them: rows begin at multiples of the alignment, and the last one is not padded
+abbrev pub padded : ℕ → ℕ → ℕ → ℕ → List ℕ → List ℕ
+padded width height each alignment bytes = with_padding height (width * each) (row_step (width * each) alignment - width * each) bytes

@@ -10,6 +10,7 @@ mod names;
 mod number_map;
 pub mod raster_enums;
 mod rect;
+pub mod target_enums;
 pub mod texture_enums;
 
 pub use error_names::error_name;

@@ -17,8 +17,8 @@ use Rattle.gl_plain.specs.Oracle.{Oracle, default_answers}
 use Rattle.gl_plain.specs.State.{WireState, DriverState}
 use Rattle.gl_plain.specs.Outcome.{with_error}
 use Rattle.gl_plain.specs.driver.Answers.{told}
-use Rattle.gl_plain.specs.subjects.Images.{Covers}
-use Rattle.gl_plain.specs.Covers.{all_filled, zeroings}
+use Rattle.gl_plain.specs.subjects.Images.{Covers, Marks}
+use Rattle.gl_plain.specs.Covers.{all_filled, all_marked, zeroings}
 use Rattle.gl_plain.specs.Wire.{is_bad, command_refusal, whole_first, zeroed, own_step, own_calls, calls_by, step_by, wire_step, command_calls}
 use Rattle.gl_plain.specs.Meaning.{Meaning, command_meaning, own_meaning}
 use Rattle.gl_plain.specs.Records.{contents_after, step_records}
@@ -112,17 +112,17 @@ abbrev pub own_means : Command → List ℕ → WireState → Meaning WireState
 own_means c payload w = own_meaning w c payload
 
 -- the calls of a command's name do not depend on what is written of images
-own_calls_zeroed : (w : WireState) (f : Covers) (c : Command) (payload : List ℕ) (o : Oracle) → own_calls (record w { covers = f }) c payload o ≡ own_calls w c payload o
-own_calls_zeroed w f Noop payload o = refl
-own_calls_zeroed w f (SetToken token) payload o = refl
-own_calls_zeroed w f (Bucket c) payload o = refl
-own_calls_zeroed w f (Object c) payload o = refl
-own_calls_zeroed w f (Image c) payload o = refl
-own_calls_zeroed w f (Draw c) payload o = refl
-own_calls_zeroed w f (Query c) payload o = refl
+own_calls_zeroed : (w : WireState) (f : Covers) (m : Marks) (c : Command) (payload : List ℕ) (o : Oracle) → own_calls (record w { covers = f; marks = m }) c payload o ≡ own_calls w c payload o
+own_calls_zeroed w f m Noop payload o = refl
+own_calls_zeroed w f m (SetToken token) payload o = refl
+own_calls_zeroed w f m (Bucket c) payload o = refl
+own_calls_zeroed w f m (Object c) payload o = refl
+own_calls_zeroed w f m (Image c) payload o = refl
+own_calls_zeroed w f m (Draw c) payload o = refl
+own_calls_zeroed w f m (Query c) payload o = refl
 
 -- a command that is not refused is its own part behind its zeroings
-pub zeroed_leads : (w : WireState) (c : Command) (payload : List ℕ) → is_bad w c ≡ false → command_refusal w.es c payload ≡ None → (es : List DriverEntry) → calls_in es ≡ zeroings w.es.textures.objects w.covers (whole_first w c) → ((o : Oracle) → told es o ≡ o)
+pub zeroed_leads : (w : WireState) (c : Command) (payload : List ℕ) → is_bad w c ≡ false → command_refusal w.es c payload ≡ None → (es : List DriverEntry) → calls_in es ≡ zeroings w.es.textures.objects w.covers w.marks (whole_first w c) → ((o : Oracle) → told es o ≡ o)
     → Leads (command_meaning w c payload) (own_meaning (zeroed w c) c payload) es
 zeroed_leads w c payload fair taken es all nothing = record {
   fair = fair;
@@ -131,7 +131,7 @@ zeroed_leads w c payload fair taken es all nothing = record {
   calls = λ o.
       ap (command_calls w c payload) (nothing o) ∙ ap (λ r. calls_by r w c payload o) taken
       ∙ ap (λ (calls : List DriverCall). calls ++ own_calls w c payload o) (sym all)
-      ∙ ap (λ (calls : List DriverCall). calls_in es ++ calls) (sym (own_calls_zeroed w (zeroed w c).covers c payload o));
+      ∙ ap (λ (calls : List DriverCall). calls_in es ++ calls) (sym (own_calls_zeroed w (zeroed w c).covers (zeroed w c).marks c payload o));
 }
 
 -- a command that is not refused, and needs no image written first, is its own part
@@ -139,8 +139,8 @@ pub own_leads : (w : WireState) (c : Command) (payload : List ℕ) → whole_fir
 own_leads w c payload whole fair taken = record {
   fair = fair;
   fair_after = refl;
-  step = λ o. ap (λ r. step_by r w c payload o) taken ∙ ap (λ is. own_step (record w { covers = all_filled w.es.textures.objects w.covers is }) c payload o) whole;
-  calls = λ o. ap (λ r. calls_by r w c payload o) taken ∙ ap (λ is. zeroings w.es.textures.objects w.covers is ++ own_calls w c payload o) whole;
+  step = λ o. ap (λ r. step_by r w c payload o) taken ∙ ap (λ is. own_step (record w { covers = all_filled w.es.textures.objects w.covers is; marks = all_marked w.marks is }) c payload o) whole;
+  calls = λ o. ap (λ r. calls_by r w c payload o) taken ∙ ap (λ is. zeroings w.es.textures.objects w.covers w.marks is ++ own_calls w c payload o) whole;
 }
 
 module _ {D : Type 0} {history : D → History} {grown : D → D → Type 0} (c : Command) (payload : List ℕ) {before after : WireState → WireState} where
@@ -157,16 +157,16 @@ module _ {D : Type 0} {history : D → History} {grown : D → D → Type 0} (c 
 
   -- the driver stopped in its zeroings, and `?` passes its stop on
   pub passes_zeroing_stop : {d d2 : D} {stop : DriverStop} (result : Result Reply ExecStop) {calls : List DriverCall} → IsErrAnd result (λ e. e ≡ stop_of_driver stop) → StoppedIn history grown d d2 calls stop → ((s : WireState) → is_bad (before s) c ≡ false)
-      → ((s : WireState) → command_refusal (before s).es c payload ≡ None) → ((s : WireState) → calls ≡ zeroings (before s).es.textures.objects (before s).covers (whole_first (before s) c)) → Acts history grown (means c payload) before after d d2 result
+      → ((s : WireState) → command_refusal (before s).es c payload ≡ None) → ((s : WireState) → calls ≡ zeroings (before s).es.textures.objects (before s).covers (before s).marks (whole_first (before s) c)) → Acts history grown (means c payload) before after d d2 result
   passes_zeroing_stop result passed stopped fair taken all = passes_stop_in {m = means c payload} result passed stopped fair
       (λ s o. (own_calls (before s) c payload o, ap (λ (cs : List DriverCall). cs ++ own_calls (before s) c payload o) (all s) ∙ sym (ap (λ r. calls_by r (before s) c payload o) (taken s))))
 
   -- what is left of it behind its zeroings
   pub ends_zeroed : ((a b c : D) → grown a b → grown b c → grown a c) → {d d1 d2 : D} (result : Result Reply ExecStop) {calls : List DriverCall} → Made history grown d d1 calls → ((s : WireState) → is_bad (before s) c ≡ false)
-      → ((s : WireState) → command_refusal (before s).es c payload ≡ None) → ((s : WireState) → calls ≡ zeroings (before s).es.textures.objects (before s).covers (whole_first (before s) c))
+      → ((s : WireState) → command_refusal (before s).es c payload ≡ None) → ((s : WireState) → calls ≡ zeroings (before s).es.textures.objects (before s).covers (before s).marks (whole_first (before s) c))
       → Acts history grown (own_means c payload) (λ s. zeroed (before s) c) after d1 d2 result → Acts history grown (means c payload) before after d d2 result
   ends_zeroed further result made fair taken all a = goes_on_behind further result made (λ s es made_all.
-      zeroed_leads (before s) c payload (fair s) (taken s) es (made_all ∙ all s) (zeroings_told (before s).es.textures.objects (before s).covers (whole_first (before s) c) es (made_all ∙ all s))) a
+      zeroed_leads (before s) c payload (fair s) (taken s) es (made_all ∙ all s) (zeroings_told (before s).es.textures.objects (before s).covers (before s).marks (whole_first (before s) c) es (made_all ∙ all s))) a
 
   -- it keeps to the laws, where each command does that was one step with the answers of its own part
   pub lawful : ((w : WireState) (d : DriverState) → Agrees w d → is_bad w c ≡ false → (w2 : WireState) (d2 : DriverState) (es : List DriverEntry) (r : Reply) → IsLegal d es → d2 ≡ state_after d es

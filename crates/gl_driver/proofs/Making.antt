@@ -1,5 +1,5 @@
 -- Calls that are made one by one.
-use Rattle.std.proofs.Common.{◌≡◌, ◌<◌, ℕ, ◌+◌, List, [], ◌∷◌, ◌++◌, length, get_or, drop, Ok, Err, refl, sym, ◌∙◌, ap, subst, append_assoc, append-nil, drop-cons, add-one}
+use Rattle.std.proofs.Common.{◌≡◌, ◌<◌, ℕ, Bool, true, false, ◌+◌, List, [], ◌∷◌, ◌++◌, length, get_or, drop, Ok, Err, refl, sym, ◌∙◌, ap, subst, append_assoc, append-nil, drop-cons, add-one}
 use Rattle.gl_base.specs.declared.rect.Rect.{Rect}
 use Rattle.gl_plain.specs.declared.driver_calls.Answer.{Answer}
 use Rattle.gl_plain.specs.declared.driver_calls.DriverCall.{DriverCall}
@@ -7,12 +7,14 @@ use Rattle.gl_plain.specs.declared.driver_calls.DriverEntry.{DriverEntry}
 use Rattle.gl_plain.specs.declared.textures.ImagePlace.{ImagePlace}
 use Rattle.gl_plain.specs.subjects.Images.{no_rect}
 use Rattle.gl_plain.specs.subjects.Textures.{TextureObjects}
-use Rattle.gl_plain.specs.subjects.Images.{Covers}
+use Rattle.gl_plain.specs.subjects.Images.{Covers, Marks, with_mark}
 use Rattle.gl_plain.specs.State.{DriverState}
 use Rattle.gl_plain.specs.Oracle.{Oracle}
 use Rattle.gl_plain.specs.driver.Allowed.{IsAllowed}
 use Rattle.gl_plain.specs.driver.Answers.{told, told_call}
-use Rattle.gl_plain.specs.Covers.{zero_call, zero_calls, zeroings, unwritten, filled}
+use Rattle.gl_plain.specs.declared.targets.AnyImage.{AnyImage}
+use Rattle.gl_plain.specs.declared.targets.AnyImage.TheVariants as any
+use Rattle.gl_plain.specs.Covers.{zero_call, zero_calls, zero_storage, zeroings, unwritten, filled}
 use Rattle.gl_plain.specs.Journal.{state_after}
 use Rattle.gl_plain.specs.Parts.{calls_in}
 use Rattle.gl_plain.proofs.Journals.{calls_in-append, IsLegal-append, state_after-append}
@@ -99,11 +101,17 @@ zero_calls_tell_nothing : (place : ImagePlace) (rs : List Rect) → TellNothing 
 zero_calls_tell_nothing place [] = tt
 zero_calls_tell_nothing place (r ∷ rs) = (λ answer o. refl, zero_calls_tell_nothing place rs)
 
-zeroings_tell_nothing : (t : TextureObjects) (f : Covers) (places : List ImagePlace) → TellNothing (zeroings t f places)
-zeroings_tell_nothing t f [] = tt
-zeroings_tell_nothing t f (place ∷ places) =
-    tell_nothing-append (zero_calls place (unwritten t f place)) (zeroings t (filled t f place) places) (zero_calls_tell_nothing place (unwritten t f place)) (zeroings_tell_nothing t (filled t f place) places)
+zero_storage_tells_nothing : (number : ℕ) (is_written : Bool) → TellNothing (zero_storage number is_written)
+zero_storage_tells_nothing number true = tt
+zero_storage_tells_nothing number false = (λ answer o. refl, tt)
+
+zeroings_tell_nothing : (t : TextureObjects) (f : Covers) (m : Marks) (xs : List AnyImage) → TellNothing (zeroings t f m xs)
+zeroings_tell_nothing t f m [] = tt
+zeroings_tell_nothing t f m (any.Level place ∷ xs) =
+    tell_nothing-append (zero_calls place (unwritten t f place)) (zeroings t (filled t f place) m xs) (zero_calls_tell_nothing place (unwritten t f place)) (zeroings_tell_nothing t (filled t f place) m xs)
+zeroings_tell_nothing t f m (any.Renderbuffer number ∷ xs) =
+    tell_nothing-append (zero_storage number (m number)) (zeroings t f (with_mark m number true) xs) (zero_storage_tells_nothing number (m number)) (zeroings_tell_nothing t f (with_mark m number true) xs)
 
 -- zeroings ask nothing
-pub zeroings_told : (t : TextureObjects) (f : Covers) (places : List ImagePlace) (es : List DriverEntry) → calls_in es ≡ zeroings t f places → (o : Oracle) → told es o ≡ o
-zeroings_told t f places es all = nothing_told es (subst TellNothing (sym all) (zeroings_tell_nothing t f places))
+pub zeroings_told : (t : TextureObjects) (f : Covers) (m : Marks) (xs : List AnyImage) (es : List DriverEntry) → calls_in es ≡ zeroings t f m xs → (o : Oracle) → told es o ≡ o
+zeroings_told t f m xs es all = nothing_told es (subst TellNothing (sym all) (zeroings_tell_nothing t f m xs))

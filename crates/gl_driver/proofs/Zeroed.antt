@@ -16,7 +16,7 @@ use Rattle.gl_driver.specs.Performed.{Made, MayMake}
 
 module _ (w : WireState) (c : Command) (payload : List ℕ) (taken : command_refusal w.es c payload ≡ None) where
   abbrev first_calls : List DriverCall
-  first_calls = zeroings w.es.textures.objects w.covers (whole_first w c)
+  first_calls = zeroings w.es.textures.objects w.covers w.marks (whole_first w c)
 
   -- each driver call of the command may be made behind those before it
   abbrev MayGo : DriverState → Type 0

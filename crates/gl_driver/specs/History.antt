@@ -6,7 +6,7 @@ use Rattle.gl_plain.specs.Journal.{IsLegal, state_after}
 use Rattle.gl_plain.specs.declared.driver_calls.DriverEntry.{DriverEntry}
 use Rattle.gl_plain.specs.declared.driver_calls.DriverCall.{DriverCall}
 use Rattle.gl_plain.specs.declared.driver_calls.Answer.{Answer}
-use Rattle.gl_plain.specs.declared.driver_calls.Answer.TheVariants.{Done, Name, Oom, Compile, Link, Validate}
+use Rattle.gl_plain.specs.declared.driver_calls.Answer.TheVariants.{Done, Name, Oom, Compile, Link, Validate, Pixels}
 use Rattle.gl_driver.specs.declared.stop.DriverStop.{DriverStop}
 use Rattle.gl_driver.specs.declared.stop.DriverStop.TheVariants.{Lost}
 
@@ -29,6 +29,7 @@ is_oom (Name name) = false
 is_oom (Compile ok log) = false
 is_oom (Link a) = false
 is_oom (Validate ok log) = false
+is_oom (Pixels bytes) = false
 is_oom Oom = true
 
 -- an entry says that there was no room

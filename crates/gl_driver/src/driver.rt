@@ -3,11 +3,11 @@ ghost use Rattle.std.specs.Prelude.{◌≡◌, IfOk};
 ghost use Rattle.gl_plain.specs.driver.Allowed.{IsAllowed};
 ghost use Rattle.gl_plain.specs.driver.Answers.{stored_answer};
 ghost use Rattle.gl_plain.specs.declared.driver_calls.DriverCall.TheVariants.{Object, Image, Program, Draw};
-ghost use Rattle.gl_plain.specs.declared.driver_calls.ObjectDriver.TheVariants.{GenBuffer, BindBuffer, BufferData, BufferSubData, DeleteBuffer, GenTexture, BindTexture, DeleteTexture, VertexAttrib4, VertexAttribPointer, SetArray};
-ghost use Rattle.gl_plain.specs.declared.driver_calls.ImageDriver.TheVariants.{TexImage, TexSubImage, ZeroLevel, TexParameter};
+ghost use Rattle.gl_plain.specs.declared.driver_calls.ObjectDriver.TheVariants.{GenBuffer, BindBuffer, BufferData, BufferSubData, DeleteBuffer, GenTexture, BindTexture, DeleteTexture, GenRenderbuffer, BindRenderbuffer, DeleteRenderbuffer, GenFramebuffer, BindFramebuffer, DeleteFramebuffer, FramebufferTexture, FramebufferRenderbuffer, VertexAttrib4, VertexAttribPointer, SetArray};
+ghost use Rattle.gl_plain.specs.declared.driver_calls.ImageDriver.TheVariants.{TexImage, TexSubImage, ZeroLevel, TexParameter, CopyTexImage, CopyTexSubImage, GenerateMipmap, RenderbufferStorage, ZeroRenderbuffer, ReadPixels};
 ghost use Rattle.gl_plain.specs.declared.driver_calls.ProgramDriver.TheVariants as programs;
 ghost use Rattle.gl_plain.specs.declared.driver_calls.DrawDriver.TheVariants as drawing;
-ghost use Rattle.gl_plain.specs.declared.driver_calls.Answer.TheVariants.{Name, Compile, Link, Validate};
+ghost use Rattle.gl_plain.specs.declared.driver_calls.Answer.TheVariants.{Name, Compile, Link, Validate, Pixels};
 ghost use Rattle.gl_driver.specs.History.{History, Served, Caused, Rose, entered, done};
 ghost use Rattle.gl_driver.specs.Payloads.{payload_given};
 
@@ -79,6 +79,57 @@ pub trait Driver {
     fn delete_texture(&mut self, name: u64) -> Result<(), DriverStop>
         requires { IsAllowed (history self.old).state (Object (DeleteTexture name)) }
         ensures served { Served history grown self.old self.new (entered result (Object (DeleteTexture name)) done) }
+        ensures cause { Caused (history self.old) (history self.new) result };
+
+    /// A new renderbuffer name, which was never given before.
+    fn gen_renderbuffer(&mut self) -> Result<u64, DriverStop>
+        ensures served { Served history grown self.old self.new (entered result (Object GenRenderbuffer) Name) }
+        ensures cause { Caused (history self.old) (history self.new) result };
+
+    /// Binds a renderbuffer by its name, or nothing by 0. The object is there from its first bind on.
+    fn bind_renderbuffer(&mut self, name: u64) -> Result<(), DriverStop>
+        requires { IsAllowed (history self.old).state (Object (BindRenderbuffer name)) }
+        ensures served { Served history grown self.old self.new (entered result (Object (BindRenderbuffer name)) done) }
+        ensures cause { Caused (history self.old) (history self.new) result };
+
+    /// Deletes a renderbuffer with its name. It is detached from the framebuffer that is bound.
+    fn delete_renderbuffer(&mut self, name: u64) -> Result<(), DriverStop>
+        requires { IsAllowed (history self.old).state (Object (DeleteRenderbuffer name)) }
+        ensures served { Served history grown self.old self.new (entered result (Object (DeleteRenderbuffer name)) done) }
+        ensures cause { Caused (history self.old) (history self.new) result };
+
+    /// A new framebuffer name, which was never given before.
+    fn gen_framebuffer(&mut self) -> Result<u64, DriverStop>
+        ensures served { Served history grown self.old self.new (entered result (Object GenFramebuffer) Name) }
+        ensures cause { Caused (history self.old) (history self.new) result };
+
+    /// Binds a framebuffer by its name, or the default framebuffer by 0. The object is there from its first bind on.
+    fn bind_framebuffer(&mut self, name: u64) -> Result<(), DriverStop>
+        requires { IsAllowed (history self.old).state (Object (BindFramebuffer name)) }
+        ensures served { Served history grown self.old self.new (entered result (Object (BindFramebuffer name)) done) }
+        ensures cause { Caused (history self.old) (history self.new) result };
+
+    /// Deletes a framebuffer with its name.
+    fn delete_framebuffer(&mut self, name: u64) -> Result<(), DriverStop>
+        requires { IsAllowed (history self.old).state (Object (DeleteFramebuffer name)) }
+        ensures served { Served history grown self.old self.new (entered result (Object (DeleteFramebuffer name)) done) }
+        ensures cause { Caused (history self.old) (history self.new) result };
+
+    /// Attaches level 0 of a texture to the framebuffer that is bound, or nothing by 0.
+    fn framebuffer_texture(
+        &mut self,
+        attachment: GlEnum,
+        textarget: GlEnum,
+        name: u64,
+    ) -> Result<(), DriverStop>
+        requires { IsAllowed (history self.old).state (Object (FramebufferTexture attachment textarget name)) }
+        ensures served { Served history grown self.old self.new (entered result (Object (FramebufferTexture attachment textarget name)) done) }
+        ensures cause { Caused (history self.old) (history self.new) result };
+
+    /// Attaches a renderbuffer to the framebuffer that is bound, or nothing by 0.
+    fn framebuffer_renderbuffer(&mut self, attachment: GlEnum, name: u64) -> Result<(), DriverStop>
+        requires { IsAllowed (history self.old).state (Object (FramebufferRenderbuffer attachment name)) }
+        ensures served { Served history grown self.old self.new (entered result (Object (FramebufferRenderbuffer attachment name)) done) }
         ensures cause { Caused (history self.old) (history self.new) result };
 
     /// Sets the value that a vertex attribute has where its array is not enabled, as four float patterns.
@@ -165,6 +216,69 @@ pub trait Driver {
     ) -> Result<(), DriverStop>
         requires { IsAllowed (history self.old).state (Image (TexParameter target parameter value)) }
         ensures served { Served history grown self.old self.new (entered result (Image (TexParameter target parameter value)) done) }
+        ensures cause { Caused (history self.old) (history self.new) result };
+
+    /// Gives a level of what the target binds an image with the pixels of a rectangle of what is drawn to; those outside are zero. `Oom` where it
+    /// has no room, which leaves the state as it was.
+    fn copy_tex_image(
+        &mut self,
+        target: GlEnum,
+        level: i32,
+        format: GlEnum,
+        x: i32,
+        y: i32,
+        width: i32,
+        height: i32,
+    ) -> Result<Stored, DriverStop>
+        requires { IsAllowed (history self.old).state (Image (CopyTexImage target level format x y width height)) }
+        ensures served { Served history grown self.old self.new (entered result (Image (CopyTexImage target level format x y width height)) stored_answer) }
+        ensures cause { Caused (history self.old) (history self.new) result }
+        ensures oom { IfOk result (λ s. s ≡ Stored.Oom → Rose (history self.old).ooms (history self.new).ooms) };
+
+    /// Gives a rectangle of a level of what the target binds the pixels of one of what is drawn to; those outside are zero.
+    fn copy_tex_sub_image(
+        &mut self,
+        target: GlEnum,
+        level: i32,
+        xoffset: i32,
+        yoffset: i32,
+        x: i32,
+        y: i32,
+        width: i32,
+        height: i32,
+    ) -> Result<(), DriverStop>
+        requires { IsAllowed (history self.old).state (Image (CopyTexSubImage (record { target = target; level = level; xoffset = xoffset; yoffset = yoffset; x = x; y = y; width = width; height = height }))) }
+        ensures served { Served history grown self.old self.new (entered result (Image (CopyTexSubImage (record { target = target; level = level; xoffset = xoffset; yoffset = yoffset; x = x; y = y; width = width; height = height }))) done) }
+        ensures cause { Caused (history self.old) (history self.new) result };
+
+    /// Makes the halves of level 0 of what the target binds, down to one pixel.
+    fn generate_mipmap(&mut self, target: GlEnum) -> Result<(), DriverStop>
+        requires { IsAllowed (history self.old).state (Image (GenerateMipmap target)) }
+        ensures served { Served history grown self.old self.new (entered result (Image (GenerateMipmap target)) done) }
+        ensures cause { Caused (history self.old) (history self.new) result };
+
+    /// Gives the renderbuffer that is bound an image of which nothing is written. `Oom` where it has no room, which leaves the state as it was.
+    fn renderbuffer_storage(
+        &mut self,
+        format: GlEnum,
+        width: i32,
+        height: i32,
+    ) -> Result<Stored, DriverStop>
+        requires { IsAllowed (history self.old).state (Image (RenderbufferStorage format width height)) }
+        ensures served { Served history grown self.old self.new (entered result (Image (RenderbufferStorage format width height)) stored_answer) }
+        ensures cause { Caused (history self.old) (history self.new) result }
+        ensures oom { IfOk result (λ s. s ≡ Stored.Oom → Rose (history self.old).ooms (history self.new).ooms) };
+
+    /// Turns the image of a renderbuffer to zero.
+    fn zero_renderbuffer(&mut self, name: u64) -> Result<(), DriverStop>
+        requires { IsAllowed (history self.old).state (Image (ZeroRenderbuffer name)) }
+        ensures served { Served history grown self.old self.new (entered result (Image (ZeroRenderbuffer name)) done) }
+        ensures cause { Caused (history self.old) (history self.new) result };
+
+    /// The colours of a rectangle of what is drawn to, row by row, as RGBA in four bytes; those outside are what the driver gives.
+    fn read_pixels(&mut self, x: i32, y: i32, width: i32, height: i32) -> Result<Bytes, DriverStop>
+        requires { IsAllowed (history self.old).state (Image (ReadPixels x y width height)) }
+        ensures served { Served history grown self.old self.new (entered result (Image (ReadPixels x y width height)) Pixels) }
         ensures cause { Caused (history self.old) (history self.new) result };
 
     /// A new shader of this kind, under a name that was never given before.

@@ -8,7 +8,7 @@ use Rattle.gl_base.specs.declared.raster_enums.TheConstants as enums
 use Rattle.gl_plain.specs.declared.commands.DrawCommand.{DrawCommand}
 use Rattle.gl_plain.specs.declared.commands.DrawCommand.TheVariants.{ActiveTexture, Raster, Clear, DrawArrays, DrawElements, Flush, Finish}
 use Rattle.gl_plain.specs.declared.commands.ImageCommand.{ImageCommand}
-use Rattle.gl_plain.specs.declared.commands.ImageCommand.TheVariants.{TexImage2D, TexSubImage2D, TexParameteri}
+use Rattle.gl_plain.specs.declared.commands.ImageCommand.TheVariants.{TexImage2D, TexSubImage2D, CopyTexImage2D, CopyTexSubImage2D, TexParameteri, GenerateMipmap, RenderbufferStorage}
 use Rattle.gl_plain.specs.declared.commands.ObjectCommand.{ObjectCommand}
 use Rattle.gl_plain.specs.declared.commands.ObjectCommand.TheVariants as objects
 use Rattle.gl_plain.specs.declared.driver_calls.Stored.{Stored}
@@ -21,17 +21,19 @@ use Rattle.gl_plain.specs.declared.raster.WordRule.TheVariants.{Alignment}
 use Rattle.gl_plain.specs.subjects.Buffers.{BufferTables, bind_buffer_effect, buffer_data_effect}
 use Rattle.gl_plain.specs.subjects.Data.{bytes_of, payload_of}
 use Rattle.gl_plain.specs.subjects.Images.{tex_image_effect, view_of}
+use Rattle.gl_plain.specs.subjects.Copies.{copy_image}
+use Rattle.gl_plain.specs.subjects.Targets.{RenderbufferTables, bind_effect, new_framebuffer, new_renderbuffer, renderbuffer_storage_effect, storage_view}
 use Rattle.gl_plain.specs.subjects.Textures.{TextureObjects, bind_texture_effect}
 use Rattle.gl_plain.specs.subjects.Programs.{ProgramTables, can_link, delete_program_effect, delete_shader_effect, failed_link, link_program_effect, number_of, program_at, validate_program_effect, validate_unlinked_effect}
 use Rattle.gl_plain.specs.subjects.Raster.{IsAligned, alignment_effect, any_word, is_wrong_enum, is_wrong_value, kept_words, raster_refusal, rules_of}
 use Rattle.gl_plain.specs.Words.{natural}
 use Rattle.gl_plain.specs.Oracle.{Oracle, first, behind}
-use Rattle.gl_plain.specs.Spaces.{Space, Buffers, Textures, numbers_in, with_name, with_numbers}
+use Rattle.gl_plain.specs.Spaces.{Space, Buffers, Textures, Renderbuffers, Framebuffers, numbers_in, with_name, with_numbers}
 use Rattle.gl_plain.specs.State.{EsState, sources_of}
 use Rattle.gl_plain.specs.Outcome.{Outcome, leaves}
 use Rattle.gl_plain.specs.draw.Refusal.{draw_command_refusal}
 use Rattle.gl_plain.specs.draw.Step.{draw_effect}
-use Rattle.gl_plain.specs.image.Step.{image_step, image_stored}
+use Rattle.gl_plain.specs.image.Step.{image_step, image_stored, storage_stored}
 use Rattle.gl_plain.specs.object.Step.{bind_outcome, buffer_deleted_by, delete_outcome, link_outcome, object_step, store_outcome, validate_outcome, with_programs}
 use Rattle.gl_laws.proofs.Refusals.{or_false, none_refused}
 
@@ -42,8 +44,8 @@ stored_word : (a : Alignments) (words : List ℕ) → IsAligned a → any_word i
 stored_word a [] before h = absurd (cc)
 stored_word a (name ∷ []) before h = absurd (cc)
 stored_word a (name ∷ word ∷ more) before h = elim (name == enums.UNPACK_ALIGNMENT.0) as (λ b. IsAligned (if b then record a { unpack = word } else record a { pack = word })) [
-  | true ↦ (or_false (is_wrong_value Alignment word) false h).0
-  | false ↦ before
+  | true ↦ record { unpack = (or_false (is_wrong_value Alignment word) false h).0; pack = before.pack }
+  | false ↦ record { unpack = before.unpack; pack = (or_false (is_wrong_value Alignment word) false h).0 }
 ]
 
 raster_aligned : (a : Alignments) (number : ℕ) (words : List ℕ) → IsAligned a → raster_refusal number words ≡ None → IsAligned (alignment_effect a number (kept_words number words))
@@ -71,10 +73,18 @@ image_stored_alignments : (s : EsState) (t : TextureObjects) (o : Oracle) (answe
 image_stored_alignments s t o room.Done = refl
 image_stored_alignments s t o room.Oom = refl
 
+storage_stored_alignments : (s : EsState) (r : RenderbufferTables) (o : Oracle) (answer : Stored) → SameAlignments s (storage_stored s r o answer)
+storage_stored_alignments s r o room.Done = refl
+storage_stored_alignments s r o room.Oom = refl
+
 pub image_alignments : (s : EsState) (c : ImageCommand) (payload : List ℕ) (o : Oracle) → SameAlignments s (image_step s c payload o)
 image_alignments s (TexImage2D i words) payload o = image_stored_alignments s (tex_image_effect s.textures.objects i.target (natural i.level) (view_of i)) o (first o.stored)
 image_alignments s (TexSubImage2D part words) payload o = refl
+image_alignments s (CopyTexImage2D copy) payload o = image_stored_alignments s (tex_image_effect s.textures.objects copy.target (natural copy.level) (view_of (copy_image copy))) o (first o.stored)
+image_alignments s (CopyTexSubImage2D copy) payload o = refl
 image_alignments s (TexParameteri target pname value) payload o = refl
+image_alignments s (GenerateMipmap target) payload o = refl
+image_alignments s (RenderbufferStorage target format width height) payload o = storage_stored_alignments s (renderbuffer_storage_effect s.renderbuffers (storage_view format width height)) o (first o.stored)
 
 -- Commands on objects
 
@@ -83,6 +93,8 @@ module _ (s : EsState) where
   named_alignments : (space : Space) (id number : ℕ) → (with_name space id number s).alignments ≡ s.alignments
   named_alignments Buffers id number = refl
   named_alignments Textures id number = refl
+  named_alignments Renderbuffers id number = refl
+  named_alignments Framebuffers id number = refl
 
   bind_alignments : (space : Space) (bind : EsState → EsState) → ((t : EsState) → (bind t).alignments ≡ t.alignments) → (id : ℕ) (o : Oracle) (x : Option Name) → SameAlignments s (bind_outcome space bind s id o x)
   bind_alignments space bind same id o (Some x) = same s
@@ -117,6 +129,8 @@ module _ (s : EsState) where
   object_alignments (objects.BufferData target size usage words) payload o = store_alignments (buffer_data_effect s.buffers target (bytes_of (payload_of words payload) size) usage) o (first o.stored)
   object_alignments (objects.DeleteBuffers id) payload o = deleted_alignments id (map.get s.buffers.names id)
   object_alignments (objects.BindTexture target id) payload o = bind_alignments Textures (λ t. record t { textures = bind_texture_effect t.textures target id }) (λ t. refl) id o (map.get s.textures.names id)
+  object_alignments (objects.BindRenderbuffer target id) payload o = bind_alignments Renderbuffers (λ t. record t { renderbuffers = bind_effect new_renderbuffer t.renderbuffers id }) (λ t. refl) id o (map.get s.renderbuffers.names id)
+  object_alignments (objects.BindFramebuffer target id) payload o = bind_alignments Framebuffers (λ t. record t { framebuffers = bind_effect new_framebuffer t.framebuffers id }) (λ t. refl) id o (map.get s.framebuffers.names id)
   object_alignments (objects.DeleteShader shader) payload o = delete_alignments (delete_shader_effect s.programs) shader o
   object_alignments (objects.DeleteProgram program) payload o = delete_alignments (delete_program_effect s.programs) program o
   object_alignments (objects.LinkProgram program) payload o = link_alignments (number_of s.programs program) (program_at s.programs program) o

@@ -11,7 +11,7 @@ use Rattle.gl_plain.specs.declared.driver_calls.DriverEntry.{DriverEntry}
 use Rattle.gl_plain.specs.subjects.Names.{new_name, IsFresh}
 use Rattle.gl_plain.specs.Oracle.{Oracle, first, behind, led_by}
 use Rattle.gl_plain.specs.State.{EsState, DriverTables, DriverState}
-use Rattle.gl_plain.specs.Spaces.{Space, Buffers, Textures, names_in, with_name, numbers_in, with_numbers, gen_call, given_in, with_given}
+use Rattle.gl_plain.specs.Spaces.{Space, Buffers, Textures, Renderbuffers, Framebuffers, names_in, with_name, numbers_in, with_numbers, gen_call, given_in, with_given}
 use Rattle.gl_plain.specs.Outcome.{Outcome, leaves}
 use Rattle.gl_plain.specs.driver.Allowed.{IsAllowed}
 use Rattle.gl_plain.specs.driver.Answers.{told, told_call, told_number}
@@ -24,7 +24,8 @@ use Rattle.gl_plain.specs.object.Step.{bind_outcome}
 use Rattle.gl_plain.specs.object.Calls.{bind_calls}
 use Rattle.gl_plain.proofs.BuffersAgree.{agree_named}
 use Rattle.gl_laws.proofs.OwnLaws.{StepLeft}
-use Rattle.gl_laws.proofs.Tables.{with_new_buffer, with_new_texture}
+use Rattle.gl_laws.proofs.Tables.{with_new_buffer, with_new_texture, with_new_renderbuffer, with_new_framebuffer}
+use Rattle.gl_laws.proofs.TargetsAgree.{agree_renderbuffer_named, agree_framebuffer_named}
 use Rattle.gl_laws.proofs.TexturesAgree.{agree_texture_named}
 use Rattle.gl_laws.proofs.Lists.{entry, one_entry, two_entries, front_of_one, first_entry, head_is, tail_is}
 
@@ -32,19 +33,27 @@ use Rattle.gl_laws.proofs.Lists.{entry, one_entry, two_entries, front_of_one, fi
 pub agree_gen : (space : Space) (s : EsState) (t : DriverTables) → TablesAgree s t → (id n : ℕ) → map.get (names_in space s) id ≡ None → id ≢ 0 → IsFresh (given_in space t.given) n → TablesAgree (with_name space id n s) (with_given space n t)
 agree_gen Buffers s t a id n free positive fresh = with_new_buffer s t _ _ n a (agree_named s.buffers t.buffers t.given.buffers a.buffers id n free positive fresh)
 agree_gen Textures s t a id n free positive fresh = with_new_texture s t _ _ n a (agree_texture_named s.textures t.textures t.given.textures a.textures id n free positive fresh)
+agree_gen Renderbuffers s t a id n free positive fresh = with_new_renderbuffer s t _ _ n a (agree_renderbuffer_named s.renderbuffers t.renderbuffers t.given.renderbuffers a.renderbuffers id n free positive fresh)
+agree_gen Framebuffers s t a id n free positive fresh = with_new_framebuffer s t _ _ n a (agree_framebuffer_named s.framebuffers t.framebuffers t.given.framebuffers a.framebuffers id n free positive fresh)
 
 -- it is in use
 pub known_name : (space : Space) (s : EsState) (id n : ℕ) → map.get (names_in space (with_name space id n s)) id ≡ Some (new_name n)
 known_name Buffers s id n = get-insert_here s.buffers.names id (new_name n)
 known_name Textures s id n = get-insert_here s.textures.names id (new_name n)
+known_name Renderbuffers s id n = get-insert_here s.renderbuffers.names id (new_name n)
+known_name Framebuffers s id n = get-insert_here s.framebuffers.names id (new_name n)
 
 pub gen_told : (space : Space) (answer : Answer) (o : Oracle) → told_call (gen_call space) answer o ≡ told_number space answer o
 gen_told Buffers answer o = refl
 gen_told Textures answer o = refl
+gen_told Renderbuffers answer o = refl
+gen_told Framebuffers answer o = refl
 
 gen_allowed : (space : Space) (d : DriverState) → IsAllowed d (gen_call space)
 gen_allowed Buffers d = tt
 gen_allowed Textures d = tt
+gen_allowed Renderbuffers d = tt
+gen_allowed Framebuffers d = tt
 
 -- an answer to a Gen is a new name
 pub gen_answered : (space : Space) (d : DriverState) (P : Answer → Type 0) → ((n : ℕ) → IsFresh (given_in space d.tables.given) n → P (Name n)) → (answer : Answer) (es : List DriverEntry) → IsLegal d (entry (gen_call space) answer ∷ es) → P answer
@@ -52,23 +61,35 @@ gen_answered Buffers d P f (Name n) es l = f n l.0.answered
 gen_answered Buffers d P f answer es l = absurd l.0.answered
 gen_answered Textures d P f (Name n) es l = f n l.0.answered
 gen_answered Textures d P f answer es l = absurd l.0.answered
+gen_answered Renderbuffers d P f (Name n) es l = f n l.0.answered
+gen_answered Renderbuffers d P f answer es l = absurd l.0.answered
+gen_answered Framebuffers d P f (Name n) es l = f n l.0.answered
+gen_answered Framebuffers d P f answer es l = absurd l.0.answered
 
 gen_after : (space : Space) (d : DriverState) (n : ℕ) → driver_after d (gen_call space) (Name n) ≡ record { tables = with_given space n d.tables; contents = d.contents }
 gen_after Buffers d n = refl
 gen_after Textures d n = refl
+gen_after Renderbuffers d n = refl
+gen_after Framebuffers d n = refl
 
 gen_records : (space : Space) (d : DriverState) (answer : Answer) → call_records d (gen_call space) answer ≡ []
 gen_records Buffers d answer = refl
 gen_records Textures d answer = refl
+gen_records Renderbuffers d answer = refl
+gen_records Framebuffers d answer = refl
 
 -- the numbers behind one that was told
 pub numbers_behind : (space : Space) (n : ℕ) (o : Oracle) → with_numbers space (behind (numbers_in space (with_numbers space (led_by n (numbers_in space o)) o))) (with_numbers space (led_by n (numbers_in space o)) o) ≡ o
 numbers_behind Buffers n o = refl
 numbers_behind Textures n o = refl
+numbers_behind Renderbuffers n o = refl
+numbers_behind Framebuffers n o = refl
 
 pub first_number : (space : Space) (n : ℕ) (o : Oracle) → first (numbers_in space (with_numbers space (led_by n (numbers_in space o)) o)) ≡ n
 first_number Buffers n o = refl
 first_number Textures n o = refl
+first_number Renderbuffers n o = refl
+first_number Framebuffers n o = refl
 
 pub some_is : (o : Option names.Name) (x : names.Name) → o ≡ Some x → IsSome o
 some_is o x e = subst (λ (y : Option names.Name). IsSome y) (sym e) refl

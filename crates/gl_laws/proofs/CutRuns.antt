@@ -6,12 +6,11 @@ use Rattle.gl_plain.specs.declared.commands.Fetched.{Fetched}
 use Rattle.gl_plain.specs.declared.driver_calls.DriverCall.{DriverCall}
 use Rattle.gl_plain.specs.declared.driver_calls.DriverEntry.{DriverEntry}
 use Rattle.gl_plain.specs.subjects.Images.{read_contents}
-use Rattle.gl_plain.specs.subjects.Buckets.{breaks_bucket_rule}
 use Rattle.gl_plain.specs.Oracle.{Oracle}
 use Rattle.gl_plain.specs.State.{WireState, DriverState}
 use Rattle.gl_plain.specs.Commands.{command_of}
-use Rattle.gl_plain.specs.Wire.{data_words, given_to}
-use Rattle.gl_plain.specs.Meaning.{Meaning, meaning_if, meaning_by, meaning_of}
+use Rattle.gl_plain.specs.Wire.{given_to, reply_bucket}
+use Rattle.gl_plain.specs.Meaning.{Meaning, breaks_a_bucket_rule, command_meaning, meaning_if, meaning_by, meaning_of}
 use Rattle.gl_plain.specs.driver.Answers.{told}
 use Rattle.gl_plain.specs.Journal.{IsLegal, state_after, records_in}
 use Rattle.gl_plain.specs.Parts.{calls_in, IsFairFrontOf, IsFrontOfMeaning, IsNextFront, AreCutParts}
@@ -20,18 +19,21 @@ use Rattle.gl_plain.specs.Agreement.{Agrees}
 use Rattle.gl_plain.proofs.Journals.{told-append}
 use Rattle.gl_laws.proofs.Lists.{append_records, legal_split, records-append}
 use Rattle.gl_laws.proofs.Fronts.{AreFirst, none_first, nothing_first, front_records}
-use Rattle.gl_laws.proofs.Runs.{part_left, records_by}
+use Rattle.gl_laws.proofs.Runs.{delivered_bad, delivered_calls, part_left, records_by}
 
-module _ (w : WireState) (d : DriverState) (a : Agrees w d) (es : List DriverEntry) (more : List DriverCall) (o rest : Oracle) where
-  -- where the command may break a rule of its bucket
-  first_if : (broken : Bool) (c : Command) (payload : List ℕ) → calls_in es ++ more ≡ (meaning_if broken w c payload).calls o → AreFirst (records_in d es) (step_records w.es c (given_to w c payload) rest (read_contents d.contents))
-  first_if true c payload h = nothing_first d es more _ h
-  first_if false c payload h = front_records w d a c (given_to w c payload) o es more h rest
+module _ (w : WireState) (d : DriverState) (a : Agrees w d) (es : List DriverEntry) (more : List DriverCall) (z o : Oracle) (l : IsLegal d es) where
+  -- where the command may break a rule on buckets
+  first_if : (broken : Bool) (c : Command) (payload : List ℕ) → (meaning_if broken w c payload).bad ≡ false → calls_in es ++ more ≡ (meaning_if broken w c payload).calls z
+      → AreFirst (records_in d es) (step_records w.es c (given_to w c payload) (told es o) (read_contents d.contents))
+  first_if true c payload fair h = nothing_first d es more _ h
+  first_if false c payload fair h =
+      let m = command_meaning w c (given_to w c payload) in
+      front_records w d a c (given_to w c payload) (sym (delivered_bad (reply_bucket c) m) ∙ fair) z es more (h ∙ ap (λ (calls : Oracle → List DriverCall). calls z) (delivered_calls (reply_bucket c) m)) o l
 
   -- of the command that is spelled, if one is
-  first_of : (c : Option Command) (payload : List ℕ) → calls_in es ++ more ≡ (meaning_by w c payload).calls o → AreFirst (records_in d es) (records_made w c payload rest (read_contents d.contents))
-  first_of None payload h = nothing_first d es more _ h
-  first_of (Some c) payload h = first_if (breaks_bucket_rule w.buckets (data_words c)) c payload h
+  first_of : (c : Option Command) (payload : List ℕ) → (meaning_by w c payload).bad ≡ false → calls_in es ++ more ≡ (meaning_by w c payload).calls z → AreFirst (records_in d es) (records_made w c payload (told es o) (read_contents d.contents))
+  first_of None payload fair h = nothing_first d es more _ h
+  first_of (Some c) payload fair h = first_if (breaks_a_bucket_rule w c) c payload fair h
 
 -- a proper front is a front
 as_fair : (lost : Bool) (m : Meaning WireState) (entries : List DriverEntry) → IsFrontOfMeaning lost m entries → IsFairFrontOf m.bad m.calls entries
@@ -45,18 +47,18 @@ no_entries d entries h = subst (λ (es : List DriverEntry). AreFirst (records_in
 first_and : (made all more : List Record) → AreFirst made all → AreFirst made (all ++ more)
 first_and made all more h = (h.0 ++ more, ap (λ (z : List Record). z ++ more) h.1 ∙ sym (append_records made h.0 more))
 
-module _ (f : Fetched) (w : WireState) (d : DriverState) (o : Oracle) (entries : List DriverEntry) (a : Agrees w d) where
+module _ (f : Fetched) (w : WireState) (d : DriverState) (o : Oracle) (entries : List DriverEntry) (a : Agrees w d) (l : IsLegal d entries) where
   -- of a front of one command
   one_first : (b : Bool) → (meaning_of w f).bad ≡ b → IsFairFrontOf (meaning_of w f).bad (meaning_of w f).calls entries → AreFirst (records_in d entries) (records_by b w (read_contents d.contents) f [] (told entries o))
   one_first true is h = no_entries d entries (h.1 is)
-  one_first false is h = first_and _ _ [] (first_of w d a entries h.0.1 (told entries h.0.0) (told entries o) (command_of f) f.payload h.0.2)
+  one_first false is h = first_and _ _ [] (first_of w d a entries h.0.1 (told entries h.0.0) o l (command_of f) f.payload is h.0.2)
 
-next_first : (lost : Bool) (fs : List Fetched) (w : WireState) (d : DriverState) (o : Oracle) (entries : List DriverEntry) → Agrees w d → IsNextFront lost w fs entries
+next_first : (lost : Bool) (fs : List Fetched) (w : WireState) (d : DriverState) (o : Oracle) (entries : List DriverEntry) → Agrees w d → IsLegal d entries → IsNextFront lost w fs entries
     → AreFirst (records_in d entries) (run_records w (read_contents d.contents) (take 1 fs) (told entries o))
-next_first false [] w d o entries a h = no_entries d entries h
-next_first true [] w d o entries a h = absurd h
-next_first false (f ∷ fs) w d o entries a h = one_first f w d o entries a (meaning_of w f).bad refl (as_fair false (meaning_of w f) entries h)
-next_first true (f ∷ fs) w d o entries a h = one_first f w d o entries a (meaning_of w f).bad refl (as_fair true (meaning_of w f) entries h)
+next_first false [] w d o entries a l h = no_entries d entries h
+next_first true [] w d o entries a l h = absurd h
+next_first false (f ∷ fs) w d o entries a l h = one_first f w d o entries a l (meaning_of w f).bad refl (as_fair false (meaning_of w f) entries h)
+next_first true (f ∷ fs) w d o entries a l h = one_first f w d o entries a l (meaning_of w f).bad refl (as_fair true (meaning_of w f) entries h)
 
 -- of n commands and a front of the next one
 abbrev CutLaw : List Fetched → Type 0
@@ -92,6 +94,6 @@ module _ (f : Fetched) (fs : List Fetched) (law : CutLaw fs) (lost : Bool) (n : 
 
 -- where the run was cut off behind n commands, its records are the first of those of the n commands and the next one
 pub records_of_cut : (fs : List Fetched) → CutLaw fs
-records_of_cut fs lost zero w d o entries a l h = next_first lost fs w d o entries a h
+records_of_cut fs lost zero w d o entries a l h = next_first lost fs w d o entries a l h
 records_of_cut [] lost (suc n) w d o entries a l h = absurd h
 records_of_cut (f ∷ fs) lost (suc n) w d o entries a l h = by_parts f fs (records_of_cut fs) lost n w d o a entries l h

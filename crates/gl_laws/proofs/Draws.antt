@@ -1,8 +1,7 @@
 -- The own laws of ActiveTexture, of the commands on the fixed state, and of those that clear and draw, in the state behind their zeroings. Each
 -- makes at most one driver call, which tells nothing.
-use Rattle.std.proofs.Common.{◌≡◌, ◌≤◌, ℕ, ℤ, ◌+◌, ◌==◌, ◌&&◌, nat_lt, nat_le, Bool, true, false, if◌then◌else◌, List, [], ◌∷◌, ◌++◌, Option, None, Some, Result, Ok, Err, refl, sym, ap, ◌∙◌, subst, arith}
+use Rattle.std.proofs.Common.{◌≡◌, ◌≤◌, ℕ, ℤ, ◌+◌, ◌==◌, ◌&&◌, nat_le, Bool, true, false, if◌then◌else◌, List, [], ◌∷◌, ◌++◌, Option, None, Some, Result, Ok, Err, refl, sym, ap, ◌∙◌, subst, arith}
 use Rattle.std.specs.Prelude.{map}
-use Rattle.std.proofs.lemmas.Bool.{and_parts, ltb-true}
 use Rattle.std.proofs.lemmas.Bool.Decides.{nat_tests}
 use Rattle.gl_base.specs.declared.gl_enum.GlEnum.{GlEnum}
 use Rattle.gl_base.specs.declared.limits.TheConstants.{LAST_UNIT}
@@ -18,19 +17,21 @@ use Rattle.gl_plain.specs.declared.driver_calls.DrawDriver.TheVariants as calls
 use Rattle.gl_plain.specs.declared.errors.GlError.{GlError}
 use Rattle.gl_plain.specs.declared.errors.GlError.TheVariants.{InvalidEnum}
 use Rattle.gl_plain.specs.declared.raster.RasterWords.{RasterWords}
-use Rattle.gl_plain.specs.subjects.Images.{Pixel, Zero, ScreenImage, Screen, Contents, Covers, Made, AreWritten, IsWritten, is_defined, IsScreenWritten, read_pixel, read_contents}
+use Rattle.gl_plain.specs.subjects.Images.{Contents, ImageContents, Covers, Marks, AreWritten, IsTargetWritten, read_contents, target_contents}
 use Rattle.gl_plain.specs.subjects.Raster.{is_driver_raster, kept_words, raster_effect, raster_refusal}
-use Rattle.gl_plain.specs.subjects.Clears.{cleared, drawn, is_cleared, clear_refusal}
+use Rattle.gl_plain.specs.subjects.Clears.{cleared, drawn, clear_refusal}
 use Rattle.gl_plain.specs.declared.draws.UnitView.{UnitView}
-use Rattle.gl_plain.specs.declared.textures.ImagePlace.{ImagePlace}
-use Rattle.gl_plain.specs.declared.textures.LevelView.{LevelView}
+use Rattle.gl_plain.specs.declared.targets.AnyImage.{AnyImage}
+use Rattle.gl_plain.specs.declared.targets.AnyImage.TheVariants as any
+use Rattle.gl_plain.specs.declared.targets.Target.{Target}
 use Rattle.gl_plain.specs.declared.textures.Texture.{Texture}
 use Rattle.gl_plain.specs.Words.{natural}
 use Rattle.gl_plain.specs.subjects.Completeness.{sampled_places}
-use Rattle.gl_plain.specs.subjects.Textures.{TextureObjects, AreTexturesSound, level_at, active_texture_effect, active_texture_refusal, unit_number}
-use Rattle.gl_plain.specs.subjects.Draws.{Sources, ImageContents, Black, Sampled, check_arrays, check_indexed, drawn_places, element_bytes, elements_from, image_at, indices, is_sampled, pixels_in, places_from, places_of, sample_by, sample_of, sampled_number, sampled_texture, samples_from, unit_places, units_viewed, vertex_of}
+use Rattle.gl_plain.specs.subjects.Textures.{TextureObjects, AreTexturesSound, active_texture_effect, active_texture_refusal, unit_number}
+use Rattle.gl_plain.specs.subjects.Draws.{Sources, Black, Sampled, IsDrawAllowed, check_arrays, check_indexed, drawn_images, drawn_places, element_bytes, elements_from, indices, is_sampled, places_from, places_of, sample_by, sample_of, sampled_number, sampled_texture, samples_from, unit_places, units_viewed, vertex_of}
+use Rattle.gl_plain.specs.subjects.Targets.{Drawable, Renderbuffers, target_images, target_of}
 use Rattle.gl_plain.specs.Oracle.{Oracle}
-use Rattle.gl_plain.specs.State.{EsState, DriverState, sources_of, sources_in}
+use Rattle.gl_plain.specs.State.{EsState, DriverState, drawable_of, drawable_in, sources_of, sources_in}
 use Rattle.gl_plain.specs.driver.Allowed.{IsAllowed}
 use Rattle.gl_plain.specs.driver.Answers.{told}
 use Rattle.gl_plain.specs.Journal.{state_after, records_in}
@@ -42,67 +43,29 @@ use Rattle.gl_plain.specs.draw.Step.{draw_effect}
 use Rattle.gl_plain.specs.draw.Calls.{drawing_calls, drawing_whole_first, draw_whole_first, own_draw_calls}
 use Rattle.gl_laws.proofs.Lists.{entry, not_nil, no_entry, one_entry, front_of_one}
 use Rattle.gl_laws.proofs.Tables.{with_textures}
-use Rattle.gl_laws.proofs.Pixels.{read_defined}
+use Rattle.gl_laws.proofs.Drawables.{same_drawable, same_sources}
+use Rattle.gl_laws.proofs.Zeroing.{AreStored, stored_rest}
+use Rattle.gl_laws.proofs.MadeImages.{agree_cleared, agree_drawn, clear_reads, draw_reads, levels_first, levels_read, levels_rest, target_is_written, target_reads, written_first, written_rest}
 use Rattle.gl_laws.proofs.Raster.{set_raster_allowed, raster_stays}
-
--- What is read
-
--- a screen that was written reads as it is
-screen_reads : (screen : Screen) → IsScreenWritten screen → (λ (image : ScreenImage) (x y : ℕ). read_pixel (screen image x y)) ≡ screen
-screen_reads screen written = λ i. λ image x y. read_defined (screen image x y) (written image x y) i
-
--- what a Clear leaves of a pixel
-read_cleared : (b : Bool) (n : ℕ) (p : Pixel) → read_pixel (if b then Made n else p) ≡ (if b then Made n else read_pixel p)
-read_cleared true n p = refl
-read_cleared false n p = refl
-
-defined_cleared : (b : Bool) (n : ℕ) (p : Pixel) → is_defined p ≡ true → is_defined (if b then Made n else p) ≡ true
-defined_cleared true n p h = refl
-defined_cleared false n p h = h
-
--- a Clear of what is read leaves what is read of what it leaves
-clear_reads : (mask : ℕ) (k : Contents) → read_contents (cleared mask k) ≡ cleared mask (read_contents k)
-clear_reads mask k = λ i. record (cleared mask (read_contents k)) { screen = λ image x y. read_cleared (is_cleared mask image) k.records (k.screen image x y) i }
 
 -- Samples
 
-pixel_reads : (b : Bool) (p : Pixel) → (b ≡ true → is_defined p ≡ true) → (if b then p else Zero) ≡ (if b then read_pixel p else Zero)
-pixel_reads true p h = sym (read_defined p (h refl))
-pixel_reads false p h = refl
-
--- an image that was written whole reads as it is
-image_reads : (o : Option LevelView) (px : ℕ → ℕ → Pixel) → IsWritten o px → pixels_in o px ≡ pixels_in o (λ x y. read_pixel (px x y))
-image_reads None px all = refl
-image_reads (Some v) px all = λ i x y. pixel_reads (nat_lt x v.width && nat_lt y v.height) (px x y) (λ e. let inside = and_parts (nat_lt x v.width) (nat_lt y v.height) e in all x y (ltb-true x v.width inside.0) (ltb-true y v.height inside.1)) i
-
-module _ (t : TextureObjects) (k : Contents) where
-  written_first : (places more : List ImagePlace) → AreWritten t k (places ++ more) → AreWritten t k places
-  written_first [] more all = tt
-  written_first (place ∷ places) more all = (all.0, written_first places more all.1)
-
-  written_rest : (places more : List ImagePlace) → AreWritten t k (places ++ more) → AreWritten t k more
-  written_rest [] more all = all
-  written_rest (place ∷ places) more all = written_rest places more all.1
-
-  images_read : (places : List ImagePlace) → AreWritten t k places → map (image_at t k) places ≡ map (image_at t (read_contents k)) places
-  images_read [] all = refl
-  images_read (place ∷ places) all = λ i. record { view = level_at t place; pixel = image_reads (level_at t place) (k.images place) all.0 i } ∷ images_read places all.1 i
-
-  texture_reads : (number : ℕ) (o : Option Texture) → AreWritten t k (places_of number o) → sample_by t k number o ≡ sample_by t (read_contents k) number o
+module _ (t : TextureObjects) (r : Renderbuffers) (k : Contents) where
+  texture_reads : (number : ℕ) (o : Option Texture) → AreWritten t r k (map any.Level (places_of number o)) → sample_by t k number o ≡ sample_by t (read_contents k) number o
   texture_reads number None all = refl
-  texture_reads number (Some x) all = ap (λ (images : List ImageContents). Sampled x.min x.mag x.wrap_s x.wrap_t images) (images_read (sampled_places number x) all)
+  texture_reads number (Some x) all = ap (λ (images : List ImageContents). Sampled x.min x.mag x.wrap_s x.wrap_t images) (levels_read t r k (sampled_places number x) all)
 
-  sample_reads : (unit : ℕ) (u : UnitView) (b : Bool) → AreWritten t k (if b then places_of (sampled_number t unit u) (sampled_texture t unit u) else [])
+  sample_reads : (unit : ℕ) (u : UnitView) (b : Bool) → AreWritten t r k (map any.Level (if b then places_of (sampled_number t unit u) (sampled_texture t unit u) else []))
       → (if b then sample_by t k (sampled_number t unit u) (sampled_texture t unit u) else Black) ≡ (if b then sample_by t (read_contents k) (sampled_number t unit u) (sampled_texture t unit u) else Black)
   sample_reads unit u true all = texture_reads (sampled_number t unit u) (sampled_texture t unit u) all
   sample_reads unit u false all = refl
 
   -- what the units sample reads as it is
-  samples_read : (unit : ℕ) (units : List UnitView) → AreWritten t k (places_from t unit units) → samples_from t k unit units ≡ samples_from t (read_contents k) unit units
+  samples_read : (unit : ℕ) (units : List UnitView) → AreWritten t r k (map any.Level (places_from t unit units)) → samples_from t k unit units ≡ samples_from t (read_contents k) unit units
   samples_read unit [] all = refl
   samples_read unit (u ∷ units) all =
-      let first : sample_of t k unit u ≡ sample_of t (read_contents k) unit u = sample_reads unit u u.complete (written_first (unit_places t unit u) (places_from t (unit + 1) units) all) in
-      let rest : samples_from t k (unit + 1) units ≡ samples_from t (read_contents k) (unit + 1) units = samples_read (unit + 1) units (written_rest (unit_places t unit u) (places_from t (unit + 1) units) all) in
+      let first : sample_of t k unit u ≡ sample_of t (read_contents k) unit u = sample_reads unit u u.complete (levels_first t r k (unit_places t unit u) (places_from t (unit + 1) units) all) in
+      let rest : samples_from t k (unit + 1) units ≡ samples_from t (read_contents k) (unit + 1) units = samples_read (unit + 1) units (levels_rest t r k (unit_places t unit u) (places_from t (unit + 1) units) all) in
       λ i. (if is_sampled u then first i ∷ [] else []) ++ rest i
 
 -- Calls
@@ -131,11 +94,11 @@ module _ (call : ℕ → DriverCall) where
 
 -- The laws
 
--- what the calls of a command leave, where it leaves these tables, written rectangles and contents and makes these records
-pub record DrawLeft (d : DriverState) (s : EsState) (f : Covers) (k : Contents) (made : List Record) (o : Oracle) (es : List DriverEntry) : Type 0 where
+-- what the calls of a command leave, where it leaves these tables, written rectangles, marks and contents and makes these records
+pub record DrawLeft (d : DriverState) (s : EsState) (f : Covers) (m : Marks) (k : Contents) (made : List Record) (o : Oracle) (es : List DriverEntry) : Type 0 where
   pub asked : told es o ≡ o
   pub tables : TablesAgree s (state_after d es).tables
-  pub images : ImagesAgree s.textures.objects f (state_after d es).contents
+  pub images : ImagesAgree s.textures.objects s.renderbuffers.objects f m (state_after d es).contents
   pub contents : read_contents (state_after d es).contents ≡ k
   pub records : records_in d es ≡ made
 
@@ -144,24 +107,45 @@ abbrev pub DrawMayGoOn : EsState → DriverState → DrawCommand → Type 0
 DrawMayGoOn s d c = (es : List DriverEntry) (next : DriverCall) (more : List DriverCall) → calls_in es ++ next ∷ more ≡ own_draw_calls (sources_of s) c → IsAllowed (state_after d es) next
 
 -- what all its own calls leave
-abbrev pub DrawLeaves : EsState → DriverState → Covers → DrawCommand → Type 0
-DrawLeaves s d f c = (o : Oracle) (es : List DriverEntry) → calls_in es ≡ own_draw_calls (sources_of s) c → DrawLeft d (draw_effect s c) f (draw_contents s c (read_contents d.contents)) (draw_records s c (read_contents d.contents)) o es
+abbrev pub DrawLeaves : EsState → DriverState → Covers → Marks → DrawCommand → Type 0
+DrawLeaves s d f m c = (o : Oracle) (es : List DriverEntry) → calls_in es ≡ own_draw_calls (sources_of s) c → DrawLeft d (draw_effect s c) f m (draw_contents s c (read_contents d.contents)) (draw_records s c (read_contents d.contents)) o es
 
--- the images that it samples were written
+-- the renderbuffers that it draws to are there
+abbrev pub AreFirstStored : EsState → DrawCommand → Type 0
+AreFirstStored s c = AreStored s.renderbuffers.objects (draw_whole_first (sources_of s) c)
+
+-- the images that it samples or draws to were written
 abbrev pub IsSampleWritten : EsState → DriverState → DrawCommand → Type 0
-IsSampleWritten s d c = AreWritten s.textures.objects d.contents (draw_whole_first (sources_of s) c)
+IsSampleWritten s d c = AreWritten s.textures.objects s.renderbuffers.objects d.contents (draw_whole_first (sources_of s) c)
 
-module _ (s : EsState) (d : DriverState) (f : Covers) (a : TablesAgree s d.tables) (g : ImagesAgree s.textures.objects f d.contents) where
-  -- the driver reads what the service reads
-  same_sources : sources_in d.tables ≡ sources_of s
-  same_sources = λ i. record { buffers = sym a.buffers.objects i; element = sym a.buffers.element i; textures = sym a.textures.objects i; attribs = sym a.attribs i; executable = sym a.programs.installed i }
+module _ (s : EsState) (d : DriverState) (f : Covers) (m : Marks) (a : TablesAgree s d.tables) (g : ImagesAgree s.textures.objects s.renderbuffers.objects f m d.contents) where
+  abbrev AreAllWritten : List AnyImage → Type 0
+  AreAllWritten xs = AreWritten s.textures.objects s.renderbuffers.objects d.contents xs
 
-  -- the driver's screen is what is read of it
-  screen_read : d.contents.screen ≡ (read_contents d.contents).screen
-  screen_read = sym (screen_reads d.contents.screen g.screen)
+  abbrev AreAllStored : List AnyImage → Type 0
+  AreAllStored xs = AreStored s.renderbuffers.objects xs
+
+  -- what is drawn to
+  abbrev drawn_to : Target
+  drawn_to = target_of s.framebuffers
+
+  -- the driver draws from and to what the service does
+  driver_drawable : drawable_in d.tables ≡ drawable_of s
+  driver_drawable = sym (same_drawable s d.tables a)
+
+  driver_sources : sources_in d.tables ≡ sources_of s
+  driver_sources = sym (same_sources s d.tables a)
+
+  -- the driver's images of what is drawn to are what is read of them
+  before_read : AreAllWritten (target_images drawn_to) → target_contents (drawable_of s) d.contents drawn_to ≡ target_contents (drawable_of s) (read_contents d.contents) drawn_to
+  before_read all = target_reads (drawable_of s) d.contents drawn_to (target_is_written (drawable_of s) d.contents drawn_to g.screen all)
+
+  -- and were written
+  driver_written : AreAllWritten (target_images drawn_to) → IsTargetWritten (drawable_in d.tables) d.contents (drawable_in d.tables).target
+  driver_written all = subst (λ (b : Drawable). IsTargetWritten b d.contents b.target) (sym driver_drawable) (target_is_written (drawable_of s) d.contents drawn_to g.screen all)
 
   -- without a call all stays
-  nothing : (o : Oracle) → DrawLeft d s f (read_contents d.contents) [] o []
+  nothing : (o : Oracle) → DrawLeft d s f m (read_contents d.contents) [] o []
   nothing o = record { asked = refl; tables = a; images = g; contents = refl; records = refl }
 
   -- ActiveTexture
@@ -179,11 +163,11 @@ module _ (s : EsState) (d : DriverState) (f : Covers) (a : TablesAgree s d.table
         front_of_one (λ (gs : List DriverEntry) (c : DriverCall). IsAllowed (state_after d gs) c) unit_call (unit_within (nat_le TEXTURE0.0 unit.0 && nat_le unit.0 TEXTURE7.0) refl allowed) es next more h
 
     -- no image changes with the active unit, nor what the units bind
-    unit_left : (o : Oracle) (answer : Answer) → DrawLeft d (draw_effect s (ActiveTexture unit)) f (read_contents d.contents) [] o (entry unit_call answer ∷ [])
+    unit_left : (o : Oracle) (answer : Answer) → DrawLeft d (draw_effect s (ActiveTexture unit)) f m (read_contents d.contents) [] o (entry unit_call answer ∷ [])
     unit_left o answer = record {
       asked = refl;
       tables = with_textures s d.tables _ _ a (record { names = a.textures.names; objects = ap (λ (t : TextureObjects). active_texture_effect t (unit_number unit)) a.textures.objects; sound = activated a.textures.sound });
-      images = record { covers = g.covers; screen = g.screen };
+      images = record { covers = g.covers; marks = g.marks; screen = g.screen };
       contents = refl;
       records = refl;
     }
@@ -200,8 +184,8 @@ module _ (s : EsState) (d : DriverState) (f : Covers) (a : TablesAgree s d.table
           bound = sound.bound;
         }
 
-    unit_leaves : DrawLeaves s d f (ActiveTexture unit)
-    unit_leaves o es h = one_entry (λ (gs : List DriverEntry). DrawLeft d (draw_effect s (ActiveTexture unit)) f (read_contents d.contents) [] o gs) unit_call (unit_left o) es h
+    unit_leaves : DrawLeaves s d f m (ActiveTexture unit)
+    unit_leaves o es h = one_entry (λ (gs : List DriverEntry). DrawLeft d (draw_effect s (ActiveTexture unit)) f m (read_contents d.contents) [] o gs) unit_call (unit_left o) es h
 
   -- the commands on the fixed state
   module _ (number : ℕ) (words : List ℕ) where
@@ -216,11 +200,11 @@ module _ (s : EsState) (d : DriverState) (f : Covers) (a : TablesAgree s d.table
         ] refl h
 
     abbrev RasterLeft : Oracle → List DriverEntry → Type 0
-    RasterLeft o es = DrawLeft d (draw_effect s (Raster number words)) f (read_contents d.contents) [] o es
+    RasterLeft o es = DrawLeft d (draw_effect s (Raster number words)) f m (read_contents d.contents) [] o es
 
     -- the driver has the same fixed state again
     with_raster : (r : RasterWords) → raster_effect s.raster number (kept_words number words) ≡ r → TablesAgree (draw_effect s (Raster number words)) (record d.tables { raster = r })
-    with_raster r same = record { surface = a.surface; buffers = a.buffers; textures = a.textures; attribs = a.attribs; programs = a.programs; raster = same }
+    with_raster r same = record { surface = a.surface; buffers = a.buffers; textures = a.textures; renderbuffers = a.renderbuffers; framebuffers = a.framebuffers; attribs = a.attribs; programs = a.programs; raster = same }
 
     raster_set_both : (o : Oracle) (answer : Answer) → RasterLeft o (entry set_raster answer ∷ [])
     raster_set_both o answer = record {
@@ -234,7 +218,7 @@ module _ (s : EsState) (d : DriverState) (f : Covers) (a : TablesAgree s d.table
     raster_set_here : (o : Oracle) → is_driver_raster number ≡ false → RasterLeft o []
     raster_set_here o none = record { asked = refl; tables = with_raster d.tables.raster (raster_stays s.raster number none (kept_words number words) ∙ a.raster); images = g; contents = refl; records = refl }
 
-    raster_leaves : DrawLeaves s d f (Raster number words)
+    raster_leaves : DrawLeaves s d f m (Raster number words)
     raster_leaves o es h =
         elim (is_driver_raster number) as (λ b. is_driver_raster number ≡ b → calls_in es ≡ (if b then set_raster ∷ [] else []) → RasterLeft o es) [
           | true ↦ λ known h. one_entry (RasterLeft o) set_raster (raster_set_both o) es h
@@ -243,59 +227,88 @@ module _ (s : EsState) (d : DriverState) (f : Covers) (a : TablesAgree s d.table
 
   -- Clear
   module _ (mask : ℕ) where
-    clear_may : clear_refusal mask ≡ None → DrawMayGoOn s d (Clear mask)
-    clear_may allowed es next more h = elim (mask == 0) as (λ b. (mask == 0) ≡ b → calls_in es ++ next ∷ more ≡ (if b then [] else Draw (calls.Clear mask) ∷ []) → IsAllowed (state_after d es) next) [
-      | true ↦ λ none h. absurd (not_nil (calls_in es) next more h)
-      | false ↦ λ some h. front_of_one (λ (gs : List DriverEntry) (c : DriverCall). IsAllowed (state_after d gs) c) (Draw (calls.Clear mask)) (record { known = allowed; some = some; written = g.screen }) es next more h
-    ] refl h
+    -- the images of a Clear that does something
+    abbrev IsClearWritten : Bool → Type 0
+    IsClearWritten b = AreAllWritten (if b then [] else target_images drawn_to)
+
+    clear_may : clear_refusal (drawable_of s) mask ≡ None → IsSampleWritten s d (Clear mask) → DrawMayGoOn s d (Clear mask)
+    clear_may allowed all es next more h = elim (mask == 0) as (λ b. (mask == 0) ≡ b → IsClearWritten b → calls_in es ++ next ∷ more ≡ (if b then [] else Draw (calls.Clear mask) ∷ []) → IsAllowed (state_after d es) next) [
+      | true ↦ λ none all h. absurd (not_nil (calls_in es) next more h)
+      | false ↦ λ some all h. front_of_one (λ (gs : List DriverEntry) (c : DriverCall). IsAllowed (state_after d gs) c) (Draw (calls.Clear mask))
+          (record { known = ap (λ (b : Drawable). clear_refusal b mask) driver_drawable ∙ allowed; some = some; written = driver_written all }) es next more h
+    ] refl all h
+
+    abbrev clear_made : Record
+    clear_made = clear_record (drawable_of s) s.raster (read_contents d.contents) mask
 
     -- the record of a Clear by what is read
-    record_read : clear_record d.tables.raster d.contents mask ≡ clear_record s.raster (read_contents d.contents) mask
-    record_read = λ i. ClearRecord (record { mask = mask; raster = sym a.raster i; is_default = true; before = screen_read i })
+    record_read : AreAllWritten (target_images drawn_to) → clear_record (drawable_in d.tables) d.tables.raster d.contents mask ≡ clear_made
+    record_read all = (λ i. clear_record (driver_drawable i) (sym a.raster i) d.contents mask) ∙ (λ i. ClearRecord (record { mask = mask; raster = s.raster; before = before_read all i }))
 
-    all_cleared : (o : Oracle) (answer : Answer) → DrawLeft d s f (cleared mask (read_contents d.contents)) (clear_record s.raster (read_contents d.contents) mask ∷ []) o (entry (Draw (calls.Clear mask)) answer ∷ [])
-    all_cleared o answer = record {
+    all_cleared : AreAllStored (target_images drawn_to) → AreAllWritten (target_images drawn_to) → (o : Oracle) (answer : Answer) → DrawLeft d s f m (cleared mask drawn_to (read_contents d.contents)) (clear_made ∷ []) o (entry (Draw (calls.Clear mask)) answer ∷ [])
+    all_cleared there all o answer = record {
       asked = refl;
       tables = a;
-      images = record { covers = g.covers; screen = λ image x y. defined_cleared (is_cleared mask image) d.contents.records (d.contents.screen image x y) (g.screen image x y) };
-      contents = clear_reads mask d.contents;
-      records = λ i. record_read i ∷ [];
+      images = subst (λ (to : Target). ImagesAgree s.textures.objects s.renderbuffers.objects f m (cleared mask to d.contents)) (ap (λ (b : Drawable). b.target) (sym driver_drawable))
+          (agree_cleared s.textures.objects s.renderbuffers.objects f m d.contents g mask drawn_to there all);
+      contents = clear_reads mask (target_of d.tables.framebuffers) d.contents ∙ ap (λ (b : Drawable). cleared mask b.target (read_contents d.contents)) driver_drawable;
+      records = λ i. record_read all i ∷ [];
     }
 
-    clear_leaves : DrawLeaves s d f (Clear mask)
-    clear_leaves o es h = elim (mask == 0) as (λ b. calls_in es ≡ (if b then [] else Draw (calls.Clear mask) ∷ [])
-        → DrawLeft d s f (if b then read_contents d.contents else cleared mask (read_contents d.contents)) (if b then [] else clear_record s.raster (read_contents d.contents) mask ∷ []) o es) [
-          | true ↦ λ h. no_entry (λ (gs : List DriverEntry). DrawLeft d s f (read_contents d.contents) [] o gs) (nothing o) es h
-          | false ↦ λ h. one_entry (λ (gs : List DriverEntry). DrawLeft d s f (cleared mask (read_contents d.contents)) (clear_record s.raster (read_contents d.contents) mask ∷ []) o gs) (Draw (calls.Clear mask)) (all_cleared o) es h
-        ] h
+    clear_leaves : AreFirstStored s (Clear mask) → IsSampleWritten s d (Clear mask) → DrawLeaves s d f m (Clear mask)
+    clear_leaves there all o es h = elim (mask == 0) as (λ b. AreAllStored (if b then [] else target_images drawn_to) → IsClearWritten b → calls_in es ≡ (if b then [] else Draw (calls.Clear mask) ∷ [])
+        → DrawLeft d s f m (if b then read_contents d.contents else cleared mask drawn_to (read_contents d.contents)) (if b then [] else clear_made ∷ []) o es) [
+          | true ↦ λ there all h. no_entry (λ (gs : List DriverEntry). DrawLeft d s f m (read_contents d.contents) [] o gs) (nothing o) es h
+          | false ↦ λ there all h. one_entry (λ (gs : List DriverEntry). DrawLeft d s f m (cleared mask drawn_to (read_contents d.contents)) (clear_made ∷ []) o gs) (Draw (calls.Clear mask)) (all_cleared there all o) es h
+        ] there all h
 
   -- DrawArrays and DrawElements
 
-  -- the record of a draw by what is read, where the images that it samples were written
-  draw_read : AreWritten s.textures.objects d.contents (drawn_places (sources_of s)) → (mode : GlEnum) (elements : List ℕ)
+  -- all images of a draw
+  abbrev IsDrawWritten : Type 0
+  IsDrawWritten = AreAllWritten (drawn_images (sources_of s))
+
+  sampled_written : IsDrawWritten → AreAllWritten (map any.Level (drawn_places (sources_of s)))
+  sampled_written all = written_first s.textures.objects s.renderbuffers.objects d.contents (map any.Level (drawn_places (sources_of s))) (target_images drawn_to) all
+
+  drawn_written : IsDrawWritten → AreAllWritten (target_images drawn_to)
+  drawn_written all = written_rest s.textures.objects s.renderbuffers.objects d.contents (map any.Level (drawn_places (sources_of s))) (target_images drawn_to) all
+
+  drawn_stored : AreAllStored (drawn_images (sources_of s)) → AreAllStored (target_images drawn_to)
+  drawn_stored there = stored_rest s.renderbuffers.objects (map any.Level (drawn_places (sources_of s))) (target_images drawn_to) there
+
+  -- the record of a draw by what is read, where its images were written
+  draw_read : IsDrawWritten → (mode : GlEnum) (elements : List ℕ)
       → draw_record (sources_of s) s.raster d.contents mode elements ≡ draw_record (sources_of s) s.raster (read_contents d.contents) mode elements
   draw_read all mode elements = λ i. DrawRecord (record {
     mode = mode;
     vertices = map (vertex_of (sources_of s)) elements;
     executable = s.programs.installed;
-    samples = samples_read s.textures.objects d.contents 0 (units_viewed (sources_of s)) all i;
+    samples = samples_read s.textures.objects s.renderbuffers.objects d.contents 0 (units_viewed (sources_of s)) (sampled_written all) i;
     raster = s.raster;
-    is_default = true;
-    before = screen_read i;
+    before = before_read (drawn_written all) i;
   })
 
-  -- the screen of a draw is written, and no other image changes
-  images_drawn : ImagesAgree s.textures.objects f (drawn d.contents)
-  images_drawn = record { covers = g.covers; screen = λ image x y. refl }
+  -- what is drawn to is written, and no other image changes
+  images_drawn : AreAllStored (drawn_images (sources_of s)) → IsDrawWritten → ImagesAgree s.textures.objects s.renderbuffers.objects f m (drawn (target_of d.tables.framebuffers) d.contents)
+  images_drawn there all = subst (λ (to : Target). ImagesAgree s.textures.objects s.renderbuffers.objects f m (drawn to d.contents)) (ap (λ (b : Drawable). b.target) (sym driver_drawable))
+      (agree_drawn s.textures.objects s.renderbuffers.objects f m d.contents g drawn_to (drawn_stored there) (drawn_written all))
 
-  -- the images that are sampled where something is drawn
-  sampled_if : (r : Result DrawPlan GlError) (black : ℕ) → r ≡ Ok (record { draw = true; black = black }) → AreWritten s.textures.objects d.contents (drawing_whole_first (sources_of s) r) → AreWritten d.tables.textures.objects d.contents (drawn_places (sources_in d.tables))
-  sampled_if r black is all =
-      subst (λ (x : Sources). AreWritten x.textures d.contents (drawn_places x)) (sym same_sources) (subst (AreWritten s.textures.objects d.contents) (ap (drawing_whole_first (sources_of s)) is) all)
+  contents_drawn : read_contents (drawn (target_of d.tables.framebuffers) d.contents) ≡ drawn drawn_to (read_contents d.contents)
+  contents_drawn = draw_reads (target_of d.tables.framebuffers) d.contents ∙ ap (λ (b : Drawable). drawn b.target (read_contents d.contents)) driver_drawable
+
+  -- the images where something is drawn
+  written_if : (r : Result DrawPlan GlError) (black : ℕ) → r ≡ Ok (record { draw = true; black = black }) → AreAllWritten (drawing_whole_first (sources_of s) r) → IsDrawWritten
+  written_if r black is all = subst AreAllWritten (ap (drawing_whole_first (sources_of s)) is) all
+
+  -- the condition of the driver call
+  draw_allowed : (check : Sources → Result DrawPlan GlError) (black : ℕ) → check (sources_of s) ≡ Ok (record { draw = true; black = black }) → IsDrawWritten → IsDrawAllowed (sources_in d.tables) d.contents (check (sources_in d.tables)) black
+  draw_allowed check black is all = subst (λ (x : Sources). IsDrawAllowed x d.contents (check x) black) (sym driver_sources)
+      (record { draws = is; sampled = sampled_written all; written = target_is_written (drawable_of s) d.contents drawn_to g.screen (drawn_written all) })
 
   -- what a draw leaves that makes this record, by what the rules say
   abbrev LeftBy : Record → Oracle → Result DrawPlan GlError → List DriverEntry → Type 0
-  LeftBy made o r es = AreWritten s.textures.objects d.contents (drawing_whole_first (sources_of s) r) → DrawLeft d s f (if_drawn r (drawn (read_contents d.contents)) (read_contents d.contents)) (if_drawn r (made ∷ []) []) o es
+  LeftBy made o r es = AreAllStored (drawing_whole_first (sources_of s) r) → AreAllWritten (drawing_whole_first (sources_of s) r) → DrawLeft d s f m (if_drawn r (drawn drawn_to (read_contents d.contents)) (read_contents d.contents)) (if_drawn r (made ∷ []) []) o es
 
   module _ (mode : GlEnum) (start count : ℤ) where
     abbrev arrays_call : ℕ → DriverCall
@@ -303,17 +316,17 @@ module _ (s : EsState) (d : DriverState) (f : Covers) (a : TablesAgree s d.table
 
     arrays_may : IsSampleWritten s d (DrawArrays mode start count) → DrawMayGoOn s d (DrawArrays mode start count)
     arrays_may all es next more h = drawing_front arrays_call (λ (gs : List DriverEntry) (c : DriverCall). IsAllowed (state_after d gs) c) (check_arrays (sources_of s) mode start count)
-        (λ black is. record { draws = ap (λ (x : Sources). check_arrays x mode start count) same_sources ∙ is; sampled = sampled_if (check_arrays (sources_of s) mode start count) black is all; written = g.screen }) es next more h
+        (λ black is. draw_allowed (λ (x : Sources). check_arrays x mode start count) black is (written_if (check_arrays (sources_of s) mode start count) black is all)) es next more h
 
-    arrays_leaves : IsSampleWritten s d (DrawArrays mode start count) → DrawLeaves s d f (DrawArrays mode start count)
-    arrays_leaves all o es h = drawing_entries arrays_call (LeftBy (arrays_record (sources_of s) s.raster (read_contents d.contents) mode start count) o) (λ e all. nothing o) (λ black all. nothing o)
-        (λ black answer all. record {
+    arrays_leaves : AreFirstStored s (DrawArrays mode start count) → IsSampleWritten s d (DrawArrays mode start count) → DrawLeaves s d f m (DrawArrays mode start count)
+    arrays_leaves there all o es h = drawing_entries arrays_call (LeftBy (arrays_record (sources_of s) s.raster (read_contents d.contents) mode start count) o) (λ e there all. nothing o) (λ black there all. nothing o)
+        (λ black answer there all. record {
           asked = refl;
           tables = a;
-          images = images_drawn;
-          contents = refl;
-          records = (λ i. arrays_record (same_sources i) (sym a.raster i) d.contents mode start count ∷ []) ∙ (λ i. draw_read all mode (elements_from (natural start) (natural count)) i ∷ []);
-        }) (check_arrays (sources_of s) mode start count) es h all
+          images = images_drawn there all;
+          contents = contents_drawn;
+          records = (λ i. arrays_record (driver_sources i) (sym a.raster i) d.contents mode start count ∷ []) ∙ (λ i. draw_read all mode (elements_from (natural start) (natural count)) i ∷ []);
+        }) (check_arrays (sources_of s) mode start count) es h there all
 
   module _ (mode : GlEnum) (count : ℤ) (kind : GlEnum) (offset : ℕ) where
     abbrev elements_call : ℕ → DriverCall
@@ -321,34 +334,34 @@ module _ (s : EsState) (d : DriverState) (f : Covers) (a : TablesAgree s d.table
 
     elements_may : IsSampleWritten s d (DrawElements mode count kind offset) → DrawMayGoOn s d (DrawElements mode count kind offset)
     elements_may all es next more h = drawing_front elements_call (λ (gs : List DriverEntry) (c : DriverCall). IsAllowed (state_after d gs) c) (check_indexed (sources_of s) mode count kind offset)
-        (λ black is. record { draws = ap (λ (x : Sources). check_indexed x mode count kind offset) same_sources ∙ is; sampled = sampled_if (check_indexed (sources_of s) mode count kind offset) black is all; written = g.screen }) es next more h
+        (λ black is. draw_allowed (λ (x : Sources). check_indexed x mode count kind offset) black is (written_if (check_indexed (sources_of s) mode count kind offset) black is all)) es next more h
 
-    elements_leaves : IsSampleWritten s d (DrawElements mode count kind offset) → DrawLeaves s d f (DrawElements mode count kind offset)
-    elements_leaves all o es h = drawing_entries elements_call (LeftBy (elements_record (sources_of s) s.raster (read_contents d.contents) mode count kind offset) o) (λ e all. nothing o) (λ black all. nothing o)
-        (λ black answer all. record {
+    elements_leaves : AreFirstStored s (DrawElements mode count kind offset) → IsSampleWritten s d (DrawElements mode count kind offset) → DrawLeaves s d f m (DrawElements mode count kind offset)
+    elements_leaves there all o es h = drawing_entries elements_call (LeftBy (elements_record (sources_of s) s.raster (read_contents d.contents) mode count kind offset) o) (λ e there all. nothing o) (λ black there all. nothing o)
+        (λ black answer there all. record {
           asked = refl;
           tables = a;
-          images = images_drawn;
-          contents = refl;
-          records = (λ i. elements_record (same_sources i) (sym a.raster i) d.contents mode count kind offset ∷ []) ∙ (λ i. draw_read all mode (indices (element_bytes (sources_of s)) kind offset (natural count)) i ∷ []);
-        }) (check_indexed (sources_of s) mode count kind offset) es h all
+          images = images_drawn there all;
+          contents = contents_drawn;
+          records = (λ i. elements_record (driver_sources i) (sym a.raster i) d.contents mode count kind offset ∷ []) ∙ (λ i. draw_read all mode (indices (element_bytes (sources_of s)) kind offset (natural count)) i ∷ []);
+        }) (check_indexed (sources_of s) mode count kind offset) es h there all
 
   -- the laws, a line for each command
 
   pub draw_may : (c : DrawCommand) → draw_command_refusal (sources_of s) c ≡ None → IsSampleWritten s d c → DrawMayGoOn s d c
   draw_may (ActiveTexture unit) allowed all = unit_may unit allowed
   draw_may (Raster number words) allowed all = raster_may number words allowed
-  draw_may (Clear mask) allowed all = clear_may mask allowed
+  draw_may (Clear mask) allowed all = clear_may mask allowed all
   draw_may (DrawArrays mode start count) allowed all = arrays_may mode start count all
   draw_may (DrawElements mode count kind offset) allowed all = elements_may mode count kind offset all
   draw_may Flush allowed all = λ es next more h. absurd (not_nil (calls_in es) next more h)
   draw_may Finish allowed all = λ es next more h. absurd (not_nil (calls_in es) next more h)
 
-  pub draw_leaves : (c : DrawCommand) → IsSampleWritten s d c → DrawLeaves s d f c
-  draw_leaves (ActiveTexture unit) all = unit_leaves unit
-  draw_leaves (Raster number words) all = raster_leaves number words
-  draw_leaves (Clear mask) all = clear_leaves mask
-  draw_leaves (DrawArrays mode start count) all = arrays_leaves mode start count all
-  draw_leaves (DrawElements mode count kind offset) all = elements_leaves mode count kind offset all
-  draw_leaves Flush all = λ o es h. no_entry (λ (gs : List DriverEntry). DrawLeft d s f (read_contents d.contents) [] o gs) (nothing o) es h
-  draw_leaves Finish all = λ o es h. no_entry (λ (gs : List DriverEntry). DrawLeft d s f (read_contents d.contents) [] o gs) (nothing o) es h
+  pub draw_leaves : (c : DrawCommand) → AreFirstStored s c → IsSampleWritten s d c → DrawLeaves s d f m c
+  draw_leaves (ActiveTexture unit) there all = unit_leaves unit
+  draw_leaves (Raster number words) there all = raster_leaves number words
+  draw_leaves (Clear mask) there all = clear_leaves mask there all
+  draw_leaves (DrawArrays mode start count) there all = arrays_leaves mode start count there all
+  draw_leaves (DrawElements mode count kind offset) there all = elements_leaves mode count kind offset there all
+  draw_leaves Flush there all = λ o es h. no_entry (λ (gs : List DriverEntry). DrawLeft d s f m (read_contents d.contents) [] o gs) (nothing o) es h
+  draw_leaves Finish there all = λ o es h. no_entry (λ (gs : List DriverEntry). DrawLeft d s f m (read_contents d.contents) [] o gs) (nothing o) es h

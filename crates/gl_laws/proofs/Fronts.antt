@@ -24,21 +24,30 @@ use Rattle.gl_plain.specs.subjects.Uniforms.{is_nowhere}
 use Rattle.gl_plain.specs.subjects.Draws.{Sources, check_arrays, check_indexed}
 use Rattle.gl_plain.specs.Oracle.{Oracle, default_answers, first}
 use Rattle.gl_plain.specs.State.{EsState, WireState, DriverState, sources_of}
-use Rattle.gl_plain.specs.Spaces.{Space, Buffers, Textures, gen_call, numbers_in}
-use Rattle.gl_plain.specs.Wire.{calls_by, command_calls, command_refusal, own_calls, whole_first, zeroed}
-use Rattle.gl_plain.specs.Journal.{records_in, entry_after, state_after}
+use Rattle.gl_plain.specs.Spaces.{Space, Buffers, Textures, Renderbuffers, Framebuffers, gen_call, numbers_in}
+use Rattle.gl_plain.specs.Wire.{is_bad, calls_by, command_calls, command_refusal, own_calls, whole_first, zeroed}
+use Rattle.gl_plain.specs.Journal.{IsLegal, records_in, entry_after, state_after}
 use Rattle.gl_plain.specs.Parts.{calls_in}
 use Rattle.gl_plain.specs.Records.{Record, call_records, draw_records, own_records, records_by, step_records}
 use Rattle.gl_plain.specs.Agreement.{Agrees}
 use Rattle.gl_plain.specs.draw.Calls.{drawing_calls, own_draw_calls}
-use Rattle.gl_plain.specs.object.Calls.{bind_buffer_call, bind_calls, bind_texture_call, link_program_calls, validate_program_calls, own_object_calls}
+use Rattle.gl_plain.specs.object.Calls.{bind_buffer_call, bind_framebuffer_call, bind_renderbuffer_call, bind_calls, bind_texture_call, link_program_calls, validate_program_calls, own_object_calls}
 use Rattle.gl_plain.specs.image.Calls.{own_image_calls}
+use Rattle.gl_plain.specs.query.Calls.{own_query_calls}
+use Rattle.gl_plain.specs.driver.Answers.{told}
+use Rattle.gl_plain.specs.subjects.Targets.{delete_calls}
+use Rattle.gl_plain.specs.subjects.Copies.{copy_rect, reads_nothing}
+use Rattle.gl_base.specs.Rects.{is_empty}
+use Rattle.gl_plain.specs.declared.driver_calls.ObjectDriver.TheVariants as calls
+use Rattle.gl_plain.specs.declared.commands.QueryCommand.{QueryCommand}
+use Rattle.gl_plain.specs.declared.commands.QueryCommand.TheVariants.{ReadPixels, GetError}
 use Rattle.gl_plain.specs.subjects.Buffers.{delete_buffers_calls}
 use Rattle.gl_plain.specs.subjects.Textures.{delete_textures_calls}
 use Rattle.gl_laws.proofs.Lists.{records-append}
 use Rattle.gl_laws.proofs.Zeroing.{front_of_two, zeroings_record_nothing}
-use Rattle.gl_laws.proofs.Draws.{draw_leaves}
-use Rattle.gl_laws.proofs.Commands.{Behind, behind_zeroings, zeroed_left, zeroings_of}
+use Rattle.gl_laws.proofs.Lists.{legal_split}
+use Rattle.gl_laws.proofs.Joined.{Behind, OwnLaws, behind_zeroings, told_behind, zeroed_left, zeroings_of}
+use Rattle.gl_laws.proofs.Commands.{own_laws}
 
 -- these records are the first of all
 abbrev pub AreFirst : List Record → List Record → Type 0
@@ -56,7 +65,7 @@ nothing_first d (e ∷ es) more all h = absurd (cc)
 
 abbrev IsSilent : DriverCall → Type 0
 IsSilent (driver.Object call) = Unit {0}
-IsSilent (driver.Image call) = Unit {0}
+IsSilent (driver.Image call) = ⊥
 IsSilent (driver.Program call) = Unit {0}
 IsSilent (driver.Draw call) = ⊥
 
@@ -66,7 +75,7 @@ AreSilent (c ∷ cs) = IsSilent c × AreSilent cs
 
 no_record : (d : DriverState) (c : DriverCall) (answer : Answer) → IsSilent c → call_records d c answer ≡ []
 no_record d (driver.Object call) answer h = refl
-no_record d (driver.Image call) answer h = refl
+no_record d (driver.Image call) answer h = absurd h
 no_record d (driver.Program call) answer h = refl
 no_record d (driver.Draw call) answer h = absurd h
 
@@ -78,6 +87,8 @@ silent_first d (e ∷ es) more h = λ i. no_record d e.call e.answer h.0 i ++ si
 silent_gen : (space : Space) → IsSilent (gen_call space)
 silent_gen Buffers = tt
 silent_gen Textures = tt
+silent_gen Renderbuffers = tt
+silent_gen Framebuffers = tt
 
 silent_bind : (space : Space) (bind : ℕ → DriverCall) → ((n : ℕ) → IsSilent (bind n)) → (id : ℕ) (o : Oracle) (x : Option Name) → AreSilent (bind_calls space bind id o x)
 silent_bind space bind silent id o (Some x) = (silent x.number, tt)
@@ -98,6 +109,10 @@ silent_delete : (x : Option Name) → AreSilent (delete_buffers_calls x)
 silent_delete None = tt
 silent_delete (Some x) = (tt, tt)
 
+silent_delete_named : (call : ℕ → DriverCall) → ((n : ℕ) → IsSilent (call n)) → (x : Option Name) → AreSilent (delete_calls call x)
+silent_delete_named call silent None = tt
+silent_delete_named call silent (Some x) = (silent x.number, tt)
+
 silent_delete_textures : (x : Option Name) → AreSilent (delete_textures_calls x)
 silent_delete_textures None = tt
 silent_delete_textures (Some x) = (tt, tt)
@@ -116,6 +131,10 @@ objects_silent s (objects.BindBuffer target id) payload o = silent_bind Buffers 
 objects_silent s (objects.DeleteBuffers id) payload o = silent_delete (map.get s.buffers.names id)
 objects_silent s (objects.BindTexture target id) payload o = silent_bind Textures (bind_texture_call target) (λ n. tt) id o (map.get s.textures.names id)
 objects_silent s (objects.DeleteTextures id) payload o = silent_delete_textures (map.get s.textures.names id)
+objects_silent s (objects.BindRenderbuffer target id) payload o = silent_bind Renderbuffers bind_renderbuffer_call (λ n. tt) id o (map.get s.renderbuffers.names id)
+objects_silent s (objects.DeleteRenderbuffers id) payload o = silent_delete_named (λ n. driver.Object (calls.DeleteRenderbuffer n)) (λ n. tt) (map.get s.renderbuffers.names id)
+objects_silent s (objects.BindFramebuffer target id) payload o = silent_bind Framebuffers bind_framebuffer_call (λ n. tt) id o (map.get s.framebuffers.names id)
+objects_silent s (objects.DeleteFramebuffers id) payload o = silent_delete_named (λ n. driver.Object (calls.DeleteFramebuffer n)) (λ n. tt) (map.get s.framebuffers.names id)
 objects_silent s (objects.DeleteShader shader) payload o = silent_unless (shader == 0) _ tt
 objects_silent s (objects.DeleteProgram program) payload o = silent_unless (program == 0) _ tt
 objects_silent s (objects.LinkProgram program) payload o = silent_link s.programs (number_of s.programs program) (program_at s.programs program)
@@ -123,13 +142,7 @@ objects_silent s (objects.ValidateProgram program) payload o = silent_validate (
 objects_silent s (objects.Uniform location kind count transpose words) payload o = silent_unless (is_nowhere location) _ tt
 objects_silent s c payload o = (tt, tt)
 
--- and those of the commands on images
-images_silent : (s : EsState) (c : ImageCommand) (payload : List ℕ) → AreSilent (own_image_calls s c payload)
-images_silent s (images.TexImage2D i words) payload = (tt, tt)
-images_silent s (images.TexSubImage2D part words) payload = (tt, tt)
-images_silent s (images.TexParameteri target pname value) payload = (tt, tt)
-
--- Calls that draw and clear
+-- Calls on images, and calls that draw or clear
 
 -- there is at most one
 abbrev AreFew : List DriverCall → Type 0
@@ -156,6 +169,22 @@ draws_few s (DrawElements mode count kind offset) = few_drawing _ (check_indexed
 draws_few s Flush = λ x xs h. absurd (cc)
 draws_few s Finish = λ x xs h. absurd (cc)
 
+few_one : (c : DriverCall) → AreFew (c ∷ [])
+few_one c x xs h = cc
+
+images_few : (s : EsState) (c : ImageCommand) (payload : List ℕ) → AreFew (own_image_calls s c payload)
+images_few s (images.TexImage2D i words) payload = few_one _
+images_few s (images.TexSubImage2D part words) payload = few_one _
+images_few s (images.CopyTexImage2D copy) payload = few_one _
+images_few s (images.CopyTexSubImage2D copy) payload = few_unless (is_empty (copy_rect copy)) _
+images_few s (images.TexParameteri target pname value) payload = few_one _
+images_few s (images.GenerateMipmap target) payload = few_one _
+images_few s (images.RenderbufferStorage target format width height) payload = few_one _
+
+queries_few : (s : EsState) (c : QueryCommand) → AreFew (own_query_calls s c)
+queries_few s (ReadPixels words bucket) = few_unless (reads_nothing words) _
+queries_few s GetError = λ x xs h. absurd (cc)
+
 no_more : (xs ys : List DriverCall) → xs ++ ys ≡ [] → ys ≡ []
 no_more [] ys h = h
 no_more (x ∷ xs) ys h = absurd (cc)
@@ -174,43 +203,53 @@ no_records d es none = ([], sym none ∙ append_no_record (records_in d es))
 
 -- Behind the zeroings
 
-module _ (w : WireState) (d : DriverState) where
-  draw_first : (c : DrawCommand) → Behind w d (Draw c) → (es : List DriverEntry) (more : List DriverCall) → calls_in es ++ more ≡ own_draw_calls (sources_of w.es) c → AreFirst (records_in d es) (draw_records w.es c (read_contents d.contents))
-  draw_first c b [] more h = none_first _
-  draw_first c b (e ∷ es) more h =
-      let none : more ≡ [] = no_more (calls_in es) more (draws_few (sources_of w.es) c e.call (calls_in es ++ more) h) in
-      let whole : calls_in (e ∷ es) ≡ own_draw_calls (sources_of w.es) c = append_none (calls_in (e ∷ es)) more none ∙ h in
-      ([], sym (draw_leaves w.es d (zeroed w (Draw c)).covers b.tables b.images c b.written default_answers (e ∷ es) whole).records ∙ append_no_record (records_in d (e ∷ es)))
+module _ (w : WireState) (c : Command) (payload : List ℕ) (laws : OwnLaws w c payload) (d : DriverState) (b : Behind w d c) (o : Oracle) where
+  abbrev IsOwnFront : List DriverEntry → Type 0
+  IsOwnFront es = AreFirst (records_in d es) (own_records w.es c payload (told es o) (read_contents d.contents))
 
+  -- where there is at most one call, whatever is answered
+  few_first : (all : List DriverCall) → AreFew all → ((z : Oracle) → own_calls w c payload z ≡ all) → (es : List DriverEntry) (more : List DriverCall) → IsLegal d es → calls_in es ++ more ≡ all → IsOwnFront es
+  few_first all few same [] more l h = none_first _
+  few_first all few same (e ∷ es) more l h =
+      let none : more ≡ [] = no_more (calls_in es) more (few e.call (calls_in es ++ more) h) in
+      let whole : calls_in (e ∷ es) ≡ all = append_none (calls_in (e ∷ es)) more none ∙ h in
+      ([], sym (laws.leaves d b o (e ∷ es) l (whole ∙ sym (same (told (e ∷ es) o)))).records ∙ append_no_record (records_in d (e ∷ es)))
+
+module _ (w : WireState) (d : DriverState) where
   -- the own calls of a command
-  own_first : (c : Command) → Behind w d c → (payload : List ℕ) (o : Oracle) (es : List DriverEntry) (more : List DriverCall) → calls_in es ++ more ≡ own_calls w c payload o → (rest : Oracle) → AreFirst (records_in d es) (own_records w.es c payload rest (read_contents d.contents))
-  own_first (Object c) b payload o es more h rest = no_records d es (silent_first d es more (subst AreSilent (sym h) (objects_silent w.es c payload o)))
-  own_first (Image c) b payload o es more h rest = no_records d es (silent_first d es more (subst AreSilent (sym h) (images_silent w.es c payload)))
-  own_first (Draw c) b payload o es more h rest = draw_first c b es more h
-  own_first Noop b payload o es more h rest = nothing_first d es more [] h
-  own_first (SetToken token) b payload o es more h rest = nothing_first d es more [] h
-  own_first (Bucket c) b payload o es more h rest = nothing_first d es more [] h
-  own_first (Query c) b payload o es more h rest = nothing_first d es more [] h
+  own_first : (c : Command) (payload : List ℕ) → OwnLaws w c payload → Behind w d c → (z : Oracle) (es : List DriverEntry) (more : List DriverCall) → calls_in es ++ more ≡ own_calls w c payload z → (o : Oracle) → IsLegal d es
+      → AreFirst (records_in d es) (own_records w.es c payload (told es o) (read_contents d.contents))
+  own_first (Object c) payload laws b z es more h o l = no_records d es (silent_first d es more (subst AreSilent (sym h) (objects_silent w.es c payload z)))
+  own_first (Image c) payload laws b z es more h o l = few_first w (Image c) payload laws d b o (own_image_calls w.es c payload) (images_few w.es c payload) (λ z. refl) es more l h
+  own_first (Draw c) payload laws b z es more h o l = few_first w (Draw c) payload laws d b o (own_draw_calls (sources_of w.es) c) (draws_few (sources_of w.es) c) (λ z. refl) es more l h
+  own_first (Query c) payload laws b z es more h o l = few_first w (Query c) payload laws d b o (own_query_calls w.es c) (queries_few w.es c) (λ z. refl) es more l h
+  own_first Noop payload laws b z es more h o l = nothing_first d es more [] h
+  own_first (SetToken token) payload laws b z es more h o l = nothing_first d es more [] h
+  own_first (Bucket c) payload laws b z es more h o l = nothing_first d es more [] h
 
 -- All calls
 
-module _ (w : WireState) (d : DriverState) (a : Agrees w d) where
+module _ (w : WireState) (d : DriverState) (a : Agrees w d) (c : Command) (payload : List ℕ) (fair : is_bad w c ≡ false) where
   -- the zeroings record nothing, and the own calls what the command records
-  joined_first : (c : Command) (payload : List ℕ) (o : Oracle) (xs ys : List DriverEntry) (more : List DriverCall) → calls_in xs ≡ zeroings_of w c → calls_in ys ++ more ≡ own_calls w c payload o → (rest : Oracle)
-      → AreFirst (records_in d (xs ++ ys)) (own_records w.es c payload rest (read_contents d.contents))
-  joined_first c payload o xs ys more are h rest =
-      let zeros = zeroed_left w d a c xs are in
+  joined_first : command_refusal w.es c payload ≡ None → (z : Oracle) (xs ys : List DriverEntry) (more : List DriverCall) → calls_in xs ≡ zeroings_of w c → calls_in ys ++ more ≡ own_calls w c payload z → (o : Oracle) → IsLegal d (xs ++ ys)
+      → AreFirst (records_in d (xs ++ ys)) (own_records w.es c payload (told (xs ++ ys) o) (read_contents d.contents))
+  joined_first is z xs ys more are h o l =
+      let zeros = zeroed_left w d a c payload is xs are in
       let made : records_in d (xs ++ ys) ≡ records_in (state_after d xs) ys = records-append d xs ys ∙ ap (λ (r : List Record). r ++ records_in (state_after d xs) ys) zeros.records in
-      subst (λ (r : List Record). AreFirst r (own_records w.es c payload rest (read_contents d.contents))) (sym made)
-      (subst (λ (k : Contents). AreFirst (records_in (state_after d xs) ys) (own_records w.es c payload rest k)) zeros.reads (own_first w (state_after d xs) c (behind_zeroings w d a c xs are) payload o ys more h rest))
+      subst (λ (t : Oracle). AreFirst (records_in d (xs ++ ys)) (own_records w.es c payload t (read_contents d.contents))) (sym (told_behind w d a c payload is xs ys are o))
+      (subst (λ (r : List Record). AreFirst r (own_records w.es c payload (told ys o) (read_contents d.contents))) (sym made)
+      (subst (λ (k : Contents). AreFirst (records_in (state_after d xs) ys) (own_records w.es c payload (told ys o) k)) zeros.reads
+      (own_first w (state_after d xs) c payload (own_laws w a.aligned c payload fair is) (behind_zeroings w d a c payload is xs are) z ys more h o (legal_split d xs ys l).1)))
 
-  first_by : (r : Option GlError) (c : Command) (payload : List ℕ) (o : Oracle) (es : List DriverEntry) (more : List DriverCall) → calls_in es ++ more ≡ calls_by r w c payload o → (rest : Oracle) → AreFirst (records_in d es) (records_by r w.es c payload rest (read_contents d.contents))
-  first_by (Some e) c payload o es more h rest = nothing_first d es more [] h
-  first_by None c payload o es more h rest = elim (front_of_two (zeroings_of w c) (own_calls w c payload o) es more h) [
-    | inl p ↦ subst (λ (made : List Record). AreFirst made (own_records w.es c payload rest (read_contents d.contents))) (sym (zeroings_record_nothing w.es.textures.objects w.covers d (whole_first w c) es p.0 p.1)) (none_first _)
-    | inr p ↦ subst (λ (gs : List DriverEntry). AreFirst (records_in d gs) (own_records w.es c payload rest (read_contents d.contents))) (sym p.2) (joined_first c payload o p.0 p.1 more p.3 p.4 rest)
+  first_by : (r : Option GlError) → command_refusal w.es c payload ≡ r → (z : Oracle) (es : List DriverEntry) (more : List DriverCall) → calls_in es ++ more ≡ calls_by r w c payload z → (o : Oracle) → IsLegal d es
+      → AreFirst (records_in d es) (records_by r w.es c payload (told es o) (read_contents d.contents))
+  first_by (Some e) is z es more h o l = nothing_first d es more [] h
+  first_by None is z es more h o l = elim (front_of_two (zeroings_of w c) (own_calls w c payload z) es more h) [
+    | inl p ↦ subst (λ (made : List Record). AreFirst made (own_records w.es c payload (told es o) (read_contents d.contents))) (sym (zeroings_record_nothing w.es.textures.objects w.covers w.marks d (whole_first w c) es p.0 p.1)) (none_first _)
+    | inr p ↦ subst (λ (gs : List DriverEntry). AreFirst (records_in d gs) (own_records w.es c payload (told gs o) (read_contents d.contents))) (sym p.2) (joined_first is z p.0 p.1 more p.3 p.4 o (subst (IsLegal d) p.2 l))
   ]
 
-  -- what the first calls of a command record is the first of what it records, whatever is answered behind them
-  pub front_records : (c : Command) (payload : List ℕ) (o : Oracle) (es : List DriverEntry) (more : List DriverCall) → calls_in es ++ more ≡ command_calls w c payload o → (rest : Oracle) → AreFirst (records_in d es) (step_records w.es c payload rest (read_contents d.contents))
-  front_records c payload o es more h rest = first_by (command_refusal w.es c payload) c payload o es more h rest
+  -- what the first calls of a command record, as they were answered, is the first of what it records, whatever is answered behind them
+  pub front_records : (z : Oracle) (es : List DriverEntry) (more : List DriverCall) → calls_in es ++ more ≡ command_calls w c payload z → (o : Oracle) → IsLegal d es
+      → AreFirst (records_in d es) (step_records w.es c payload (told es o) (read_contents d.contents))
+  front_records z es more h o l = first_by (command_refusal w.es c payload) refl z es more h o l

@@ -1,4 +1,5 @@
--- The own laws of TexImage2D, TexSubImage2D and TexParameteri, in the state behind their zeroings. Each makes one driver call.
+-- What the own laws of commands on images say, and those of TexImage2D, TexSubImage2D and TexParameteri, in the state behind their zeroings.
+-- Each makes one driver call.
 use Rattle.std.proofs.Common.{◌≡◌, ◌≤◌, ℕ, ℤ, pos, ◌*◌, ◌/◌, ◌^◌, ◌==◌, Bool, true, false, not, ◌&&◌, ◌||◌, nat_le, if◌then◌else◌, List, [], ◌∷◌, ◌++◌, Option, None, Some, is_none, refl, sym, ap, ◌∙◌, subst, arith}
 use Rattle.std.proofs.lemmas.Bool.{and_parts, eq-eqb, leb-true, not-false, not-true, or_parts}
 use Rattle.std.proofs.lemmas.Bool.Decides.{nat_tests}
@@ -18,7 +19,7 @@ use Rattle.gl_plain.specs.declared.commands.DataWords.{DataWords}
 use Rattle.gl_plain.specs.declared.commands.ImageCommand.{ImageCommand}
 use Rattle.gl_plain.specs.declared.commands.ImageCommand.TheVariants.{TexImage2D, TexSubImage2D, TexParameteri}
 use Rattle.gl_plain.specs.declared.driver_calls.Answer.{Answer}
-use Rattle.gl_plain.specs.declared.driver_calls.Answer.TheVariants.{Done, Name, Oom, Compile, Link, Validate}
+use Rattle.gl_plain.specs.declared.driver_calls.Answer.TheVariants.{Done, Name, Oom, Compile, Link, Validate, Pixels}
 use Rattle.gl_plain.specs.declared.driver_calls.DriverCall.{DriverCall}
 use Rattle.gl_plain.specs.declared.driver_calls.DriverCall.TheVariants.{Image}
 use Rattle.gl_plain.specs.declared.driver_calls.DriverEntry.{DriverEntry}
@@ -34,9 +35,12 @@ use Rattle.gl_plain.specs.declared.textures.Texture.{Texture}
 use Rattle.gl_plain.specs.Words.{is_negative, natural}
 use Rattle.gl_plain.specs.subjects.Data.{IsData, payload_of, has_no_data, has_needed_data}
 use Rattle.gl_plain.specs.subjects.Levels.{is_image_target, is_cube_face, is_cube_target, suits, with_level}
-use Rattle.gl_plain.specs.subjects.Textures.{TextureObjects, AreTexturesSound, HasLevels, IsOfKind, bound_number, bound_texture, with_texture, place_bound, level_at, with_parameter, tex_parameter_by, tex_parameter_effect}
-use Rattle.gl_plain.specs.subjects.Images.{Pixel, Undefined, Contents, Covers, IsCover, IsCovered, is_defined, is_place, is_format, is_pixel_kind, is_level, is_side, is_zero, is_square, is_level_side, has_good_sides, image_needed, image_words, tex_image_is_bad, tex_sub_image_is_bad, tex_image_refusal, tex_sub_image_refusal, tex_image_by, tex_image_effect, view_of, part_rect, part_level, leaves_level, differs_from_level, with_image, with_pixels, new_pixels, pixels_of, read_contents, unpadded_part, unpadded_payload, HasLength, with_cover, new_cover, no_rect, extended, extended_by}
+use Rattle.gl_plain.specs.subjects.Textures.{TextureObjects, AreTexturesSound, HasLevels, IsOfKind, bound_number, bound_texture, with_texture, place_bound, level_at, with_parameter, tex_parameter_by, tex_parameter_effect, tex_parameter_refusal}
+use Rattle.gl_plain.specs.subjects.Images.{Pixel, Undefined, Contents, Covers, Marks, IsCover, IsCovered, is_defined, is_place, is_format, is_pixel_kind, is_level, is_side, is_zero, is_square, is_level_side, has_good_sides, image_needed, image_words, tex_image_is_bad, tex_sub_image_is_bad, tex_image_refusal, tex_sub_image_refusal, tex_image_by, tex_image_effect, view_of, part_rect, part_level, leaves_level, differs_from_level, with_image, with_pixels, new_pixels, pixels_of, read_contents, unpadded_part, unpadded_payload, HasLength, with_cover, new_cover, no_rect, extended, extended_by}
 use Rattle.gl_plain.specs.subjects.Raster.{is_wrong_value}
+use Rattle.gl_plain.specs.declared.targets.AnyImage.{AnyImage}
+use Rattle.gl_plain.specs.declared.targets.AnyImage.TheVariants as any
+use Rattle.gl_plain.specs.subjects.Targets.{Renderbuffers}
 use Rattle.gl_plain.specs.Oracle.{Oracle}
 use Rattle.gl_plain.specs.State.{EsState, DriverState}
 use Rattle.gl_plain.specs.Covers.{filled, all_filled}
@@ -45,40 +49,38 @@ use Rattle.gl_plain.specs.driver.Answers.{told}
 use Rattle.gl_plain.specs.driver.Effect.{objects_in}
 use Rattle.gl_plain.specs.Journal.{IsLegal, state_after, records_in}
 use Rattle.gl_plain.specs.Parts.{calls_in}
-use Rattle.gl_plain.specs.Records.{image_contents}
+use Rattle.gl_plain.specs.Records.{image_contents, image_records}
 use Rattle.gl_plain.specs.Agreement.{TablesAgree, ImagesAgree}
-use Rattle.gl_plain.specs.image.Arguments.{image_is_bad, IsImageData}
 use Rattle.gl_plain.specs.image.Calls.{own_image_calls}
-use Rattle.gl_plain.specs.image.Covers.{part_place, image_whole_first, image_covers}
-use Rattle.gl_plain.specs.image.Refusal.{image_command_refusal}
+use Rattle.gl_plain.specs.image.Covers.{part_place, part_first, image_whole_first, image_covers, image_marks}
 use Rattle.gl_plain.specs.image.Step.{with_objects, image_step}
 use Rattle.gl_laws.proofs.Lists.{entry, one_entry, front_of_one}
 use Rattle.gl_laws.proofs.Tables.{with_errors, with_textures}
-use Rattle.gl_laws.proofs.Places.{at_place, cover_here, cover_elsewhere}
+use Rattle.gl_laws.proofs.Places.{at_place, place_is, cover_here, cover_elsewhere}
 use Rattle.gl_laws.proofs.Pixels.{read_image, read_new, read_written, defined_here, pixels_elsewhere}
-use Rattle.gl_laws.proofs.Zeroing.{IsWholeOf, filled_whole}
+use Rattle.gl_laws.proofs.Zeroing.{IsWholeOf, filled_elsewhere, filled_whole}
 use Rattle.gl_laws.proofs.ImageSizes.{unpadded_bytes, all_needed, just_needed}
 use Rattle.gl_laws.proofs.ImageTables.{level_sized, level_small, levels_kept, levels_written, parameter_kind, parameter_levels, parameter_sized, sound_with, texture_sized}
 
 -- what the calls of a command leave, where it is given the answers of `before` and hands on those of `after`
-pub record ImageLeft (s : EsState) (d : DriverState) (f : Covers) (c : ImageCommand) (payload : List ℕ) (before after : Oracle) (es : List DriverEntry) : Type 0 where
+pub record ImageLeft (s : EsState) (d : DriverState) (f : Covers) (m : Marks) (c : ImageCommand) (payload : List ℕ) (before after : Oracle) (es : List DriverEntry) : Type 0 where
   pub asked : (image_step s c payload before).oracle ≡ after
   pub tables : TablesAgree (image_step s c payload before).state (state_after d es).tables
-  pub images : ImagesAgree (image_step s c payload before).state.textures.objects (image_covers s c payload before f) (state_after d es).contents
+  pub images : ImagesAgree (image_step s c payload before).state.textures.objects (image_step s c payload before).state.renderbuffers.objects (image_covers s c payload before f) (image_marks s c before m) (state_after d es).contents
   pub contents : read_contents (state_after d es).contents ≡ image_contents s c payload before (read_contents d.contents)
-  pub records : records_in d es ≡ []
+  pub records : records_in d es ≡ image_records s c before (read_contents d.contents)
 
 -- behind any of its own calls that a command has made, the next one is allowed
 abbrev pub ImageMayGoOn : EsState → DriverState → ImageCommand → List ℕ → Type 0
 ImageMayGoOn s d c payload = (es : List DriverEntry) (next : DriverCall) (more : List DriverCall) → calls_in es ++ next ∷ more ≡ own_image_calls s c payload → IsAllowed (state_after d es) next
 
 -- what all its own calls leave
-abbrev pub ImageLeaves : EsState → DriverState → Covers → ImageCommand → List ℕ → Type 0
-ImageLeaves s d f c payload = (o : Oracle) (es : List DriverEntry) → IsLegal d es → calls_in es ≡ own_image_calls s c payload → ImageLeft s d f c payload (told es o) o es
+abbrev pub ImageLeaves : EsState → DriverState → Covers → Marks → ImageCommand → List ℕ → Type 0
+ImageLeaves s d f m c payload = (o : Oracle) (es : List DriverEntry) → IsLegal d es → calls_in es ≡ own_image_calls s c payload → ImageLeft s d f m c payload (told es o) o es
 
 -- Where nothing is refused
 
-none_of_three : (p q r : Bool) (x y z : GlError) → (if p then Some x else if q then Some y else if r then Some z else None) ≡ None → (p ≡ false) × (q ≡ false) × (r ≡ false)
+pub none_of_three : (p q r : Bool) (x y z : GlError) → (if p then Some x else if q then Some y else if r then Some z else None) ≡ None → (p ≡ false) × (q ≡ false) × (r ≡ false)
 none_of_three true q r x y z h = absurd (cc)
 none_of_three false true r x y z h = absurd (cc)
 none_of_three false false true x y z h = absurd (cc)
@@ -180,28 +182,30 @@ covered_if : (b : Bool) (v : LevelView) (o : Option LevelView) (r old : Rect) (n
 covered_if true v o r old new px now before = now
 covered_if false v o r old new px now before = before
 
-module _ (t after : TextureObjects) (f : Covers) (k : Contents) (agree : ImagesAgree t f k) where
+module _ (t after : TextureObjects) (stored : Renderbuffers) (f : Covers) (m : Marks) (k : Contents) (agree : ImagesAgree t stored f m k) where
   -- an image is a new one, and all others are as before
-  images_new : (place : ImagePlace) (v : LevelView) (r : Rect) (new : ℕ → ℕ → Pixel) → IsCover v r new → ((other : ImagePlace) → level_at after other ≡ (if is_place place other then Some v else level_at t other)) → ImagesAgree after (with_cover f place r) (with_image k place new)
+  pub images_new : (place : ImagePlace) (v : LevelView) (r : Rect) (new : ℕ → ℕ → Pixel) → IsCover v r new → ((other : ImagePlace) → level_at after other ≡ (if is_place place other then Some v else level_at t other)) → ImagesAgree after stored (with_cover f place r) m (with_image k place new)
   images_new place v r new covered levels = record {
     covers = λ other. subst (λ (o : Option LevelView). IsCovered o (with_cover f place r other) ((with_image k place new).images other)) (sym (levels other))
         (covered_if (is_place place other) v (level_at t other) r (f other) new (k.images other) covered (agree.covers other));
+    marks = agree.marks;
     screen = agree.screen;
   }
 
   -- all images are as before
-  images_same : ((place : ImagePlace) → level_at after place ≡ level_at t place) → ImagesAgree after f k
-  images_same levels = record { covers = λ place. subst (λ (o : Option LevelView). IsCovered o (f place) (k.images place)) (sym (levels place)) (agree.covers place); screen = agree.screen }
+  pub images_same : ((place : ImagePlace) → level_at after place ≡ level_at t place) → ImagesAgree after stored f m k
+  images_same levels = record { covers = λ place. subst (λ (o : Option LevelView). IsCovered o (f place) (k.images place)) (sym (levels place)) (agree.covers place); marks = agree.marks; screen = agree.screen }
 
 -- a write that extends the written rectangle
-images_extended : (t : TextureObjects) (f : Covers) (k : Contents) → ImagesAgree t f k → (place : ImagePlace) (v : LevelView) (r u : Rect) (new : ℕ → ℕ → Pixel) → level_at t place ≡ Some v → IsIn r v.width v.height → union_of (f place) r ≡ Some u → ((x y : ℕ) → is_defined (new x y) ≡ true)
-    → ImagesAgree t (with_cover f place u) (with_pixels k place r new)
-images_extended t f k agree place v r u new there inside joined all = record {
+pub images_extended : (t : TextureObjects) (stored : Renderbuffers) (f : Covers) (m : Marks) (k : Contents) → ImagesAgree t stored f m k → (place : ImagePlace) (v : LevelView) (r u : Rect) (new : ℕ → ℕ → Pixel) → level_at t place ≡ Some v → IsIn r v.width v.height → union_of (f place) r ≡ Some u → ((x y : ℕ) → is_defined (new x y) ≡ true)
+    → ImagesAgree t stored (with_cover f place u) m (with_pixels k place r new)
+images_extended t stored f m k agree place v r u new there inside joined all = record {
   covers = λ other. at_place (λ i. IsCovered (level_at t i) (with_cover f place u i) ((with_pixels k place r new).images i)) place other
       (subst (λ (o : Option LevelView). IsCovered o (with_cover f place u place) ((with_pixels k place r new).images place)) (sym there)
       (subst (λ (w : Rect). IsCover v w ((with_pixels k place r new).images place)) (sym (cover_here f place u)) extended_here))
       (λ apart. subst (λ (w : Rect). IsCovered (level_at t other) w ((with_pixels k place r new).images other)) (sym (cover_elsewhere f place u other apart))
       (subst (λ (px : ℕ → ℕ → Pixel). IsCovered (level_at t other) (f other) px) (sym (pixels_elsewhere k place r new other apart)) (agree.covers other)));
+  marks = agree.marks;
   screen = agree.screen;
 }
   where
@@ -224,7 +228,7 @@ pub record IsFinePart (t : TextureObjects) (p : PartWords) : Type 0 where
   pub wide : is_negative p.width ≡ false
   pub high : is_negative p.height ≡ false
 
-inside_of : (v : LevelView) (r : Rect) → leaves_level (Some v) r ≡ false → IsIn r v.width v.height
+pub inside_of : (v : LevelView) (r : Rect) → leaves_level (Some v) r ≡ false → IsIn r v.width v.height
 inside_of v r h = (grind (arith, nat_tests), grind (arith, nat_tests))
 
 fine_by : (t : TextureObjects) (p : PartWords) (o : Option LevelView) → part_level t p ≡ o → leaves_level o (part_rect p) ≡ false → differs_from_level o p.format p.kind ≡ false → is_negative p.width ≡ false → is_negative p.height ≡ false → IsFinePart t p
@@ -242,32 +246,52 @@ fine_part t p h =
 
 -- What a command needs written
 
--- a part and what was written of its image make a rectangle together
-abbrev pub IsJoined : TextureObjects → Covers → PartWords → Type 0
-IsJoined t f p = (u : Rect) × (union_of (f (part_place t p)) (part_rect p) ≡ Some u)
+-- a rectangle and what was written of its image make a rectangle together
+abbrev pub IsJoined : Covers → ImagePlace → Rect → Type 0
+IsJoined f place r = (u : Rect) × (union_of (f place) r ≡ Some u)
 
-abbrev pub IsReady : TextureObjects → Covers → ImageCommand → Type 0
-IsReady t f (TexImage2D i words) = Unit {0}
-IsReady t f (TexSubImage2D p words) = IsJoined t f p
-IsReady t f (TexParameteri target pname value) = Unit {0}
+module _ (t : TextureObjects) (place : ImagePlace) (r : Rect) (v : LevelView) (is : level_at t place ≡ Some v) (inside : IsIn r v.width v.height) where
+  -- an image that is written whole has each part of it
+  whole_joined : (f : Covers) → IsJoined (filled t f place) place r
+  whole_joined f =
+      let all : filled t f place place ≡ whole v.width v.height = subst (λ (o : Option LevelView). IsWholeOf o (filled t f place place)) is (filled_whole t f place) in
+      (whole v.width v.height, ap (λ (w : Rect). union_of w r) all ∙ union_whole v.width v.height r inside)
 
--- an image that is written whole has each part of it
-part_ready : (t : TextureObjects) (f : Covers) (p : PartWords) → IsFinePart t p → (o : Option Rect) → union_of (f (part_place t p)) (part_rect p) ≡ o → IsJoined t (all_filled t f (if is_none o then part_place t p ∷ [] else [])) p
-part_ready t f p fine (Some u) joined = (u, joined)
-part_ready t f p fine None joined =
-    let all : filled t f (part_place t p) (part_place t p) ≡ whole fine.view.width fine.view.height = subst (λ (o : Option LevelView). IsWholeOf o (filled t f (part_place t p) (part_place t p))) fine.is (filled_whole t f (part_place t p)) in
-    (whole fine.view.width fine.view.height, ap (λ (r : Rect). union_of r (part_rect p)) all ∙ union_whole fine.view.width fine.view.height (part_rect p) fine.inside)
+  -- and other images that are written whole change nothing of that
+  still_joined : (f : Covers) (other : ImagePlace) → IsJoined f place r → IsJoined (filled t f other) place r
+  still_joined f other joined = (elim (is_place other place) as (λ (b : Bool). is_place other place ≡ b → IsJoined (filled t f other) place r) [
+    | true ↦ λ e. subst (λ (i : ImagePlace). IsJoined (filled t f i) place r) (place_is other place e) (whole_joined f)
+    | false ↦ λ e. (joined.0, ap (λ (w : Rect). union_of w r) (filled_elsewhere f other (level_at t other) place e) ∙ joined.1)
+  ]) refl
 
--- behind its zeroings a command has what it needs written
-pub image_ready : (s : EsState) (f : Covers) (c : ImageCommand) → image_command_refusal s.textures.objects c ≡ None → IsReady s.textures.objects (all_filled s.textures.objects f (image_whole_first s f c)) c
-image_ready s f (TexImage2D i words) allowed = tt
-image_ready s f (TexSubImage2D p words) allowed = part_ready s.textures.objects f p (fine_part s.textures.objects p allowed) (union_of (f (part_place s.textures.objects p)) (part_rect p)) refl
-image_ready s f (TexParameteri target pname value) allowed = tt
+  all_joined : (f : Covers) (xs : List AnyImage) → IsJoined f place r → IsJoined (all_filled t f xs) place r
+  all_joined f [] joined = joined
+  all_joined f (any.Level other ∷ xs) joined = all_joined (filled t f other) xs (still_joined f other joined)
+  all_joined f (any.Renderbuffer number ∷ xs) joined = all_joined f xs joined
+
+  filled-append : (f : Covers) (xs ys : List AnyImage) → all_filled t f (xs ++ ys) ≡ all_filled t (all_filled t f xs) ys
+  filled-append f [] ys = refl
+  filled-append f (any.Level other ∷ xs) ys = filled-append (filled t f other) xs ys
+  filled-append f (any.Renderbuffer number ∷ xs) ys = filled-append f xs ys
+
+  -- behind some images, and its own where that is needed, a part makes a rectangle
+  joined_by : (f : Covers) (xs : List AnyImage) (o : Option Rect) → union_of (f place) r ≡ o → IsJoined (all_filled t f (xs ++ (if is_none o then any.Level place ∷ [] else []))) place r
+  joined_by f xs (Some u) e = subst (λ (g : Covers). IsJoined g place r) (sym (filled-append f xs [])) (all_joined f xs (u, e))
+  joined_by f xs None e = subst (λ (g : Covers). IsJoined g place r) (sym (filled-append f xs (any.Level place ∷ []))) (whole_joined (all_filled t f xs))
+
+  pub part_joined : (f : Covers) (xs : List AnyImage) → IsJoined (all_filled t f (xs ++ part_first f place r)) place r
+  part_joined f xs = joined_by f xs (union_of (f place) r) refl
+
+-- behind its zeroings TexSubImage2D has what it needs written
+pub sub_image_ready : (s : EsState) (f : Covers) (p : PartWords) (words : DataWords) → tex_sub_image_refusal s.textures.objects p ≡ None → IsJoined (all_filled s.textures.objects f (image_whole_first s f (TexSubImage2D p words))) (part_place s.textures.objects p) (part_rect p)
+sub_image_ready s f p words allowed =
+    let fine = fine_part s.textures.objects p allowed in
+    part_joined s.textures.objects (part_place s.textures.objects p) (part_rect p) fine.view fine.is fine.inside f []
 
 -- What is bound
 
 -- a texture of this kind
-record IsBound (t : TextureObjects) (cube : Bool) : Type 0 where
+pub record IsBound (t : TextureObjects) (cube : Bool) : Type 0 where
   pub texture : Texture
   pub is : bound_texture t cube ≡ Some texture
   pub kind : texture.cube ≡ cube
@@ -278,30 +302,22 @@ bound_by t cube (Some x) e kind = record { texture = x; is = e; kind = kind }
 
 module _ (s : EsState) (d : DriverState) (a : TablesAgree s d.tables) where
   -- the active unit binds a texture to each target
-  bound_here : (cube : Bool) → IsBound s.textures.objects cube
+  pub bound_here : (cube : Bool) → IsBound s.textures.objects cube
   bound_here cube = bound_by s.textures.objects cube (bound_texture s.textures.objects cube) refl (a.textures.sound.bound s.textures.objects.units.active cube)
 
   -- other textures of the same names
-  textures_agree : (new driven : TextureObjects) → new ≡ driven → AreTexturesSound (record s.textures { objects = new }) → TablesAgree (with_objects s new) (objects_in d.tables driven)
+  pub textures_agree : (new driven : TextureObjects) → new ≡ driven → AreTexturesSound (record s.textures { objects = new }) → TablesAgree (with_objects s new) (objects_in d.tables driven)
   textures_agree new driven same sound = with_textures s d.tables (record s.textures { objects = new }) (record d.tables.textures { objects = driven }) a (record { names = a.textures.names; objects = same; sound = sound })
 
   -- TexImage2D
 
-  module _ (i : ImageWords) (words : DataWords) (payload : List ℕ) (allowed : tex_image_refusal i ≡ None) where
-    abbrev bytes : Payload
-    bytes = unpadded_payload i s.alignments.unpack (payload_of words payload)
-
-    abbrev image_call : DriverCall
-    image_call = Image (calls.TexImage i.target i.level i.format i.kind i.width i.height bytes)
-
+  -- an image in place of another
+  module _ (i : ImageWords) (allowed : tex_image_refusal i ≡ None) where
     abbrev place : ImagePlace
     place = place_bound s.textures.objects i.target (natural i.level)
 
     abbrev after : TextureObjects → TextureObjects
     after t = tex_image_effect t i.target (natural i.level) (view_of i)
-
-    image_allowed : is_wrong_value Alignment s.alignments.unpack ≡ false → tex_image_is_bad s.alignments.unpack i words ≡ false → IsData words payload → IsAllowed d image_call
-    image_allowed aligned fair given = record { fair = again i (fine_image i allowed); bytes = image_bytes i s.alignments.unpack words payload (fine_image i allowed) aligned fair given }
 
     module _ (b : IsBound s.textures.objects (is_cube_face i.target)) where
       abbrev number : ℕ
@@ -316,41 +332,58 @@ module _ (s : EsState) (d : DriverState) (a : TablesAgree s d.tables) where
       texture_is_sized : HasLevels b.texture
       texture_is_sized = texture_sized s.textures a.textures.sound number (is_cube_face i.target) b.texture b.is
 
-      levels_after : (other : ImagePlace) → level_at (after s.textures.objects) other ≡ (if is_place place other then Some (view_of i) else level_at s.textures.objects other)
+      pub levels_after : (other : ImagePlace) → level_at (after s.textures.objects) other ≡ (if is_place place other then Some (view_of i) else level_at s.textures.objects other)
       levels_after other = ap (λ (t : TextureObjects). level_at t other) effect_is
           ∙ levels_written s.textures.objects number (is_cube_face i.target) b.texture b.is i.target (natural i.level) (view_of i) refl
           (subst (λ (cube : Bool). suits cube i.target ≡ true) (sym b.kind) (suits_kind i.target (fine_image i allowed).target_is)) (level_within i (fine_image i allowed)) texture_is_sized other
 
-      sound_after : AreTexturesSound (record s.textures { objects = after s.textures.objects })
+      pub sound_after : AreTexturesSound (record s.textures { objects = after s.textures.objects })
       sound_after = subst (λ (t : TextureObjects). AreTexturesSound (record s.textures { objects = t })) (sym effect_is)
           (sound_with s.textures a.textures.sound number (is_cube_face i.target) b.texture b.is changed refl
           (level_sized b.texture i.target (natural i.level) (view_of i) texture_is_sized (width_within i (fine_image i allowed)).1 (height_within i (fine_image i allowed)).1))
 
-    abbrev ImageLeftBy : Covers → Oracle → Answer → Type 0
-    ImageLeftBy f o answer = ImageLeft s d f (TexImage2D i words) payload (told (entry image_call answer ∷ []) o) o (entry image_call answer ∷ [])
+    module _ (words : DataWords) (payload : List ℕ) where
+      abbrev bytes : Payload
+      bytes = unpadded_payload i s.alignments.unpack (payload_of words payload)
 
-    image_by : (f : Covers) → ImagesAgree s.textures.objects f d.contents → (o : Oracle) (answer : Answer) → IsLegal d (entry image_call answer ∷ []) → ImageLeftBy f o answer
-    image_by f agree o Done l = record {
-      asked = refl;
-      tables = textures_agree (after s.textures.objects) (after d.tables.textures.objects) (ap after a.textures.objects) (sound_after (bound_here (is_cube_face i.target)));
-      images = subst (λ (t : TextureObjects). ImagesAgree (after s.textures.objects) (with_cover f place (new_cover (payload_of words payload) (view_of i))) (with_image d.contents (place_bound t i.target (natural i.level)) (new_pixels Undefined bytes (view_of i)))) a.textures.objects
-          (images_new s.textures.objects (after s.textures.objects) f d.contents agree place (view_of i) (new_cover (payload_of words payload) (view_of i)) (new_pixels Undefined bytes (view_of i))
-          (new_covered i s.alignments.unpack (payload_of words payload) (view_of i)) (levels_after (bound_here (is_cube_face i.target))));
-      contents = read_image d.contents (place_bound d.tables.textures.objects i.target (natural i.level)) (new_pixels Undefined bytes (view_of i))
-          ∙ (λ j. with_image (read_contents d.contents) (place_bound (sym a.textures.objects j) i.target (natural i.level)) (λ x y. read_new bytes (view_of i) x y j));
-      records = refl;
-    }
-    image_by f agree o Oom l = record {
-      asked = refl;
-      tables = with_errors s d.tables _ a;
-      images = agree;
-      contents = refl;
-      records = refl;
-    }
-    image_by f agree o (Name n) l = absurd l.0.answered
-    image_by f agree o (Compile ok log) l = absurd l.0.answered
-    image_by f agree o (Link answer) l = absurd l.0.answered
-    image_by f agree o (Validate ok log) l = absurd l.0.answered
+      abbrev image_call : DriverCall
+      image_call = Image (calls.TexImage i.target i.level i.format i.kind i.width i.height bytes)
+
+      image_allowed : is_wrong_value Alignment s.alignments.unpack ≡ false → tex_image_is_bad s.alignments.unpack i words ≡ false → IsData words payload → IsAllowed d image_call
+      image_allowed aligned fair given = record { fair = again i (fine_image i allowed); bytes = image_bytes i s.alignments.unpack words payload (fine_image i allowed) aligned fair given }
+
+      abbrev ImageLeftBy : Covers → Marks → Oracle → Answer → Type 0
+      ImageLeftBy f m o answer = ImageLeft s d f m (TexImage2D i words) payload (told (entry image_call answer ∷ []) o) o (entry image_call answer ∷ [])
+
+      image_by : (f : Covers) (m : Marks) → ImagesAgree s.textures.objects s.renderbuffers.objects f m d.contents → (o : Oracle) (answer : Answer) → IsLegal d (entry image_call answer ∷ []) → ImageLeftBy f m o answer
+      image_by f m agree o Done l = record {
+        asked = refl;
+        tables = textures_agree (after s.textures.objects) (after d.tables.textures.objects) (ap after a.textures.objects) (sound_after (bound_here (is_cube_face i.target)));
+        images = subst (λ (t : TextureObjects). ImagesAgree (after s.textures.objects) s.renderbuffers.objects (with_cover f place (new_cover (payload_of words payload) (view_of i))) m (with_image d.contents (place_bound t i.target (natural i.level)) (new_pixels Undefined bytes (view_of i)))) a.textures.objects
+            (images_new s.textures.objects (after s.textures.objects) s.renderbuffers.objects f m d.contents agree place (view_of i) (new_cover (payload_of words payload) (view_of i)) (new_pixels Undefined bytes (view_of i))
+            (new_covered i s.alignments.unpack (payload_of words payload) (view_of i)) (levels_after (bound_here (is_cube_face i.target))));
+        contents = read_image d.contents (place_bound d.tables.textures.objects i.target (natural i.level)) (new_pixels Undefined bytes (view_of i))
+            ∙ (λ j. with_image (read_contents d.contents) (place_bound (sym a.textures.objects j) i.target (natural i.level)) (λ x y. read_new bytes (view_of i) x y j));
+        records = refl;
+      }
+      image_by f m agree o Oom l = record {
+        asked = refl;
+        tables = with_errors s d.tables _ a;
+        images = agree;
+        contents = refl;
+        records = refl;
+      }
+      image_by f m agree o (Name n) l = absurd l.0.answered
+      image_by f m agree o (Compile ok log) l = absurd l.0.answered
+      image_by f m agree o (Link answer) l = absurd l.0.answered
+      image_by f m agree o (Validate ok log) l = absurd l.0.answered
+      image_by f m agree o (Pixels rows) l = absurd l.0.answered
+
+      pub tex_image_may : is_wrong_value Alignment s.alignments.unpack ≡ false → tex_image_is_bad s.alignments.unpack i words ≡ false → IsData words payload → ImageMayGoOn s d (TexImage2D i words) payload
+      tex_image_may aligned fair given es next more h = front_of_one (λ (gs : List DriverEntry) (c : DriverCall). IsAllowed (state_after d gs) c) image_call (image_allowed aligned fair given) es next more h
+
+      pub tex_image_leaves : (f : Covers) (m : Marks) → ImagesAgree s.textures.objects s.renderbuffers.objects f m d.contents → ImageLeaves s d f m (TexImage2D i words) payload
+      tex_image_leaves f m agree o es l h = one_entry (λ (gs : List DriverEntry). IsLegal d gs → ImageLeft s d f m (TexImage2D i words) payload (told gs o) o gs) image_call (image_by f m agree o) es h l
 
   -- TexSubImage2D
 
@@ -378,18 +411,25 @@ module _ (s : EsState) (d : DriverState) (a : TablesAgree s d.tables) where
     abbrev new_part : ℕ → ℕ → Pixel
     new_part = pixels_of part_bytes (pixel_size p.format p.kind) (part_rect p)
 
-    part_by : (f : Covers) → ImagesAgree s.textures.objects f d.contents → (u : Rect) → union_of (f (part_place s.textures.objects p)) (part_rect p) ≡ Some u → (o : Oracle) (answer : Answer)
-        → ImageLeft s d f (TexSubImage2D p words) payload (told (entry part_call answer ∷ []) o) o (entry part_call answer ∷ [])
-    part_by f agree u joined o answer = record {
+    part_by : (f : Covers) (m : Marks) → ImagesAgree s.textures.objects s.renderbuffers.objects f m d.contents → (u : Rect) → union_of (f (part_place s.textures.objects p)) (part_rect p) ≡ Some u → (o : Oracle) (answer : Answer)
+        → ImageLeft s d f m (TexSubImage2D p words) payload (told (entry part_call answer ∷ []) o) o (entry part_call answer ∷ [])
+    part_by f m agree u joined o answer = record {
       asked = refl;
       tables = a;
-      images = subst (λ (t : TextureObjects). ImagesAgree s.textures.objects (with_cover f (part_place s.textures.objects p) (extended (f (part_place s.textures.objects p)) (part_rect p))) (with_pixels d.contents (part_place t p) (part_rect p) new_part)) a.textures.objects
-          (subst (λ (w : Rect). ImagesAgree s.textures.objects (with_cover f (part_place s.textures.objects p) w) (with_pixels d.contents (part_place s.textures.objects p) (part_rect p) new_part)) (sym (ap (extended_by (f (part_place s.textures.objects p))) joined))
-          (images_extended s.textures.objects f d.contents agree (part_place s.textures.objects p) fine.view (part_rect p) u new_part fine.is fine.inside joined (λ x y. refl)));
+      images = subst (λ (t : TextureObjects). ImagesAgree s.textures.objects s.renderbuffers.objects (with_cover f (part_place s.textures.objects p) (extended (f (part_place s.textures.objects p)) (part_rect p))) m (with_pixels d.contents (part_place t p) (part_rect p) new_part)) a.textures.objects
+          (subst (λ (w : Rect). ImagesAgree s.textures.objects s.renderbuffers.objects (with_cover f (part_place s.textures.objects p) w) m (with_pixels d.contents (part_place s.textures.objects p) (part_rect p) new_part)) (sym (ap (extended_by (f (part_place s.textures.objects p))) joined))
+          (images_extended s.textures.objects s.renderbuffers.objects f m d.contents agree (part_place s.textures.objects p) fine.view (part_rect p) u new_part fine.is fine.inside joined (λ x y. refl)));
       contents = read_written d.contents (part_place d.tables.textures.objects p) (part_rect p) new_part (λ x y. refl)
           ∙ (λ j. with_pixels (read_contents d.contents) (part_place (sym a.textures.objects j) p) (part_rect p) new_part);
       records = refl;
     }
+
+    pub tex_sub_image_may : is_wrong_value Alignment s.alignments.unpack ≡ false → tex_sub_image_is_bad s.alignments.unpack p words ≡ false → IsData words payload → ImageMayGoOn s d (TexSubImage2D p words) payload
+    tex_sub_image_may aligned fair given es next more h = front_of_one (λ (gs : List DriverEntry) (c : DriverCall). IsAllowed (state_after d gs) c) part_call (part_allowed aligned fair given) es next more h
+
+    pub tex_sub_image_leaves : (f : Covers) (m : Marks) → ImagesAgree s.textures.objects s.renderbuffers.objects f m d.contents → IsJoined f (part_place s.textures.objects p) (part_rect p) → ImageLeaves s d f m (TexSubImage2D p words) payload
+    tex_sub_image_leaves f m agree joined o es l h =
+        one_entry (λ (gs : List DriverEntry). ImageLeft s d f m (TexSubImage2D p words) payload (told gs o) o gs) part_call (part_by f m agree joined.0 joined.1 o) es h
 
   -- TexParameteri
 
@@ -416,31 +456,19 @@ module _ (s : EsState) (d : DriverState) (a : TablesAgree s d.tables) where
           (sound_with s.textures a.textures.sound of_unit (is_cube_target target) b.texture b.is (with_parameter b.texture pname value) (parameter_kind b.texture pname value)
           (parameter_sized b.texture pname value (texture_sized s.textures a.textures.sound of_unit (is_cube_target target) b.texture b.is)))
 
-    parameter_by : (f : Covers) → ImagesAgree s.textures.objects f d.contents → (payload : List ℕ) (o : Oracle) (answer : Answer)
-        → ImageLeft s d f (TexParameteri target pname value) payload (told (entry parameter_call answer ∷ []) o) o (entry parameter_call answer ∷ [])
-    parameter_by f agree payload o answer = record {
+    parameter_by : (f : Covers) (m : Marks) → ImagesAgree s.textures.objects s.renderbuffers.objects f m d.contents → (payload : List ℕ) (o : Oracle) (answer : Answer)
+        → ImageLeft s d f m (TexParameteri target pname value) payload (told (entry parameter_call answer ∷ []) o) o (entry parameter_call answer ∷ [])
+    parameter_by f m agree payload o answer = record {
       asked = refl;
       tables = textures_agree (set s.textures.objects) (set d.tables.textures.objects) (ap set a.textures.objects) (sound_set (bound_here (is_cube_target target)));
-      images = images_same s.textures.objects (set s.textures.objects) f d.contents agree (levels_set (bound_here (is_cube_target target)));
+      images = images_same s.textures.objects (set s.textures.objects) s.renderbuffers.objects f m d.contents agree (levels_set (bound_here (is_cube_target target)));
       contents = refl;
       records = refl;
     }
 
-  -- The laws, a line for each command
+    pub parameter_may : (payload : List ℕ) → tex_parameter_refusal target pname value ≡ None → ImageMayGoOn s d (TexParameteri target pname value) payload
+    parameter_may payload allowed es next more h = front_of_one (λ (gs : List DriverEntry) (c : DriverCall). IsAllowed (state_after d gs) c) parameter_call allowed es next more h
 
-  pub image_may : is_wrong_value Alignment s.alignments.unpack ≡ false → (c : ImageCommand) (payload : List ℕ) → image_is_bad s c ≡ false → image_command_refusal s.textures.objects c ≡ None → IsImageData c payload → ImageMayGoOn s d c payload
-  image_may aligned (TexImage2D i words) payload fair allowed given es next more h =
-      front_of_one (λ (gs : List DriverEntry) (c : DriverCall). IsAllowed (state_after d gs) c) (image_call i words payload allowed) (image_allowed i words payload allowed aligned fair given) es next more h
-  image_may aligned (TexSubImage2D p words) payload fair allowed given es next more h =
-      front_of_one (λ (gs : List DriverEntry) (c : DriverCall). IsAllowed (state_after d gs) c) (part_call p words payload allowed) (part_allowed p words payload allowed aligned fair given) es next more h
-  image_may aligned (TexParameteri target pname value) payload fair allowed given es next more h =
-      front_of_one (λ (gs : List DriverEntry) (c : DriverCall). IsAllowed (state_after d gs) c) (parameter_call target pname value) allowed es next more h
-
-  module _ (f : Covers) (agree : ImagesAgree s.textures.objects f d.contents) where
-    pub image_leaves : (c : ImageCommand) (payload : List ℕ) → image_command_refusal s.textures.objects c ≡ None → IsReady s.textures.objects f c → ImageLeaves s d f c payload
-    image_leaves (TexImage2D i words) payload allowed ready o es l h =
-        one_entry (λ (gs : List DriverEntry). IsLegal d gs → ImageLeft s d f (TexImage2D i words) payload (told gs o) o gs) (image_call i words payload allowed) (image_by i words payload allowed f agree o) es h l
-    image_leaves (TexSubImage2D p words) payload allowed ready o es l h =
-        one_entry (λ (gs : List DriverEntry). ImageLeft s d f (TexSubImage2D p words) payload (told gs o) o gs) (part_call p words payload allowed) (part_by p words payload allowed f agree ready.0 ready.1 o) es h
-    image_leaves (TexParameteri target pname value) payload allowed ready o es l h =
-        one_entry (λ (gs : List DriverEntry). ImageLeft s d f (TexParameteri target pname value) payload (told gs o) o gs) (parameter_call target pname value) (parameter_by target pname value f agree payload o) es h
+    pub parameter_leaves : (payload : List ℕ) (f : Covers) (m : Marks) → ImagesAgree s.textures.objects s.renderbuffers.objects f m d.contents → ImageLeaves s d f m (TexParameteri target pname value) payload
+    parameter_leaves payload f m agree o es l h =
+        one_entry (λ (gs : List DriverEntry). ImageLeft s d f m (TexParameteri target pname value) payload (told gs o) o gs) parameter_call (parameter_by f m agree payload o) es h

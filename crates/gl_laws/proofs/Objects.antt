@@ -1,7 +1,7 @@
 -- The own laws of the commands on objects, a line each.
 use Rattle.std.proofs.Common.{◌≡◌, ℕ, false, List, None}
 use Rattle.gl_plain.specs.declared.commands.ObjectCommand.{ObjectCommand}
-use Rattle.gl_plain.specs.declared.commands.ObjectCommand.TheVariants.{GenBuffers, BindBuffer, BufferData, BufferSubData, DeleteBuffers, GenTextures, BindTexture, DeleteTextures, VertexAttrib4f, VertexAttribPointer, EnableVertexAttribArray, DisableVertexAttribArray, CreateShader, ShaderSource, CompileShader, DeleteShader, CreateProgram, AttachShader, DetachShader, BindAttribLocation, LinkProgram, ValidateProgram, UseProgram, DeleteProgram, Uniform}
+use Rattle.gl_plain.specs.declared.commands.ObjectCommand.TheVariants.{GenBuffers, BindBuffer, BufferData, BufferSubData, DeleteBuffers, GenTextures, BindTexture, DeleteTextures, GenRenderbuffers, BindRenderbuffer, DeleteRenderbuffers, GenFramebuffers, BindFramebuffer, DeleteFramebuffers, FramebufferTexture2D, FramebufferRenderbuffer, VertexAttrib4f, VertexAttribPointer, EnableVertexAttribArray, DisableVertexAttribArray, CreateShader, ShaderSource, CompileShader, DeleteShader, CreateProgram, AttachShader, DetachShader, BindAttribLocation, LinkProgram, ValidateProgram, UseProgram, DeleteProgram, Uniform}
 use Rattle.gl_plain.specs.State.{EsState, DriverState}
 use Rattle.gl_plain.specs.Agreement.{TablesAgree}
 use Rattle.gl_plain.specs.object.Arguments.{object_is_bad, IsObjectData}
@@ -9,6 +9,8 @@ use Rattle.gl_plain.specs.object.Refusal.{object_command_refusal}
 use Rattle.gl_laws.proofs.OwnLaws.{OwnMayGoOn, OwnLeaves}
 use Rattle.gl_laws.proofs.Buffers.{gen_may, gen_leaves, bind_buffer_may, bind_buffer_leaves, buffer_data_may, buffer_data_leaves, buffer_sub_data_may, buffer_sub_data_leaves, delete_buffers_may, delete_buffers_leaves}
 use Rattle.gl_laws.proofs.Textures.{gen_textures_may, gen_textures_leaves, bind_texture_may, bind_texture_leaves, delete_textures_may, delete_textures_leaves}
+use Rattle.gl_laws.proofs.Renderbuffers.{gen_renderbuffers_may, gen_renderbuffers_leaves, bind_renderbuffer_may, bind_renderbuffer_leaves, delete_renderbuffers_may, delete_renderbuffers_leaves}
+use Rattle.gl_laws.proofs.Framebuffers.{gen_framebuffers_may, gen_framebuffers_leaves, bind_framebuffer_may, bind_framebuffer_leaves, delete_framebuffers_may, delete_framebuffers_leaves, framebuffer_texture_may, framebuffer_texture_leaves, framebuffer_renderbuffer_may, framebuffer_renderbuffer_leaves}
 use Rattle.gl_laws.proofs.Programs.{create_shader_may, create_shader_leaves, create_program_may, create_program_leaves, shader_source_may, shader_source_leaves, compile_shader_may, compile_shader_leaves, attach_shader_may, attach_shader_leaves, detach_shader_may, detach_shader_leaves, bind_attrib_location_may, bind_attrib_location_leaves}
 use Rattle.gl_laws.proofs.ProgramsInUse.{delete_shader_may, delete_shader_leaves, delete_program_may, delete_program_leaves, link_program_may, link_program_leaves, validate_program_may, validate_program_leaves, use_program_may, use_program_leaves}
 use Rattle.gl_laws.proofs.Uniforms.{uniform_may, uniform_leaves}
@@ -24,6 +26,14 @@ module _ (s : EsState) (d : DriverState) (a : TablesAgree s d.tables) where
   object_may (GenTextures id) payload fair allowed given = gen_textures_may s d a id payload fair
   object_may (BindTexture target id) payload fair allowed given = bind_texture_may s d a target id payload allowed
   object_may (DeleteTextures id) payload fair allowed given = delete_textures_may s d a id payload
+  object_may (GenRenderbuffers id) payload fair allowed given = gen_renderbuffers_may s d a id payload fair
+  object_may (BindRenderbuffer target id) payload fair allowed given = bind_renderbuffer_may s d a target id payload
+  object_may (DeleteRenderbuffers id) payload fair allowed given = delete_renderbuffers_may s d a id payload
+  object_may (GenFramebuffers id) payload fair allowed given = gen_framebuffers_may s d a id payload fair
+  object_may (BindFramebuffer target id) payload fair allowed given = bind_framebuffer_may s d a target id payload
+  object_may (DeleteFramebuffers id) payload fair allowed given = delete_framebuffers_may s d a id payload
+  object_may (FramebufferTexture2D target attachment textarget texture level) payload fair allowed given = framebuffer_texture_may s d a target attachment textarget texture level payload allowed
+  object_may (FramebufferRenderbuffer target attachment rbtarget renderbuffer) payload fair allowed given = framebuffer_renderbuffer_may s d a target attachment rbtarget renderbuffer payload allowed
   object_may (VertexAttrib4f index x y z w) payload fair allowed given = vertex_attrib_4f_may s d a index payload x y z w allowed
   object_may (VertexAttribPointer index w) payload fair allowed given = vertex_attrib_pointer_may s d a index payload w allowed
   object_may (EnableVertexAttribArray index) payload fair allowed given = enable_may s d a index payload allowed
@@ -51,6 +61,14 @@ module _ (s : EsState) (d : DriverState) (a : TablesAgree s d.tables) where
   object_leaves (GenTextures id) payload fair allowed = gen_textures_leaves s d a id payload fair
   object_leaves (BindTexture target id) payload fair allowed = bind_texture_leaves s d a target id payload allowed
   object_leaves (DeleteTextures id) payload fair allowed = delete_textures_leaves s d a id payload
+  object_leaves (GenRenderbuffers id) payload fair allowed = gen_renderbuffers_leaves s d a id payload fair
+  object_leaves (BindRenderbuffer target id) payload fair allowed = bind_renderbuffer_leaves s d a target id payload
+  object_leaves (DeleteRenderbuffers id) payload fair allowed = delete_renderbuffers_leaves s d a id payload
+  object_leaves (GenFramebuffers id) payload fair allowed = gen_framebuffers_leaves s d a id payload fair
+  object_leaves (BindFramebuffer target id) payload fair allowed = bind_framebuffer_leaves s d a target id payload
+  object_leaves (DeleteFramebuffers id) payload fair allowed = delete_framebuffers_leaves s d a id payload
+  object_leaves (FramebufferTexture2D target attachment textarget texture level) payload fair allowed = framebuffer_texture_leaves s d a target attachment textarget texture level payload
+  object_leaves (FramebufferRenderbuffer target attachment rbtarget renderbuffer) payload fair allowed = framebuffer_renderbuffer_leaves s d a target attachment rbtarget renderbuffer payload
   object_leaves (VertexAttrib4f index x y z w) payload fair allowed = vertex_attrib_4f_leaves s d a index payload x y z w
   object_leaves (VertexAttribPointer index w) payload fair allowed = vertex_attrib_pointer_leaves s d a index payload w
   object_leaves (EnableVertexAttribArray index) payload fair allowed = enable_leaves s d a index payload

@@ -1,7 +1,7 @@
--- What a change of the pixels of one image leaves, and what its zeroings do.
-use Rattle.std.proofs.Common.{◌≡◌, ◌<◌, ℕ, Bool, true, false, not, ◌&&◌, ◌||◌, if◌then◌else◌, List, [], ◌∷◌, refl, sym, ap, ◌∙◌, subst}
+-- What a change of the pixels of one image of a texture or of a renderbuffer leaves, and what its zeroings do.
+use Rattle.std.proofs.Common.{◌≡◌, ◌<◌, ℕ, ◌==◌, Bool, true, false, not, ◌&&◌, ◌||◌, if◌then◌else◌, List, [], ◌∷◌, refl, sym, ap, ◌∙◌, subst}
 use Rattle.std.proofs.Math.Bool.{not-or_self}
-use Rattle.std.proofs.lemmas.Bool.{and_parts, or_left, or_right}
+use Rattle.std.proofs.lemmas.Bool.{and_parts, eqb-true, or_left, or_right}
 use Rattle.gl_base.specs.declared.rect.Rect.{Rect}
 use Rattle.gl_base.specs.Rects.{has, rest_of, in_any, Disjoint}
 use Rattle.gl_base.proofs.Rest.{rest_is, rest_apart, rest_inside}
@@ -9,8 +9,8 @@ use Rattle.gl_plain.specs.declared.calls.Payload.{Payload}
 use Rattle.gl_plain.specs.declared.calls.Payload.TheVariants.{Absent, Here}
 use Rattle.gl_plain.specs.declared.textures.ImagePlace.{ImagePlace}
 use Rattle.gl_plain.specs.declared.textures.LevelView.{LevelView}
-use Rattle.gl_plain.specs.subjects.Images.{Pixel, Undefined, Zero, Bytes, Made, Contents, IsCover, is_defined, is_place, new_pixels, read_contents, read_pixel, with_image, with_pixels}
-use Rattle.gl_laws.proofs.Places.{place_is, same_place}
+use Rattle.gl_plain.specs.subjects.Images.{Pixel, Undefined, Zero, Bytes, Made, Contents, IsCover, is_defined, is_place, new_pixels, read_contents, read_pixel, with_image, with_pixels, with_storage}
+use Rattle.gl_laws.proofs.Places.{place_is, same_number, same_place}
 
 -- A pixel
 
@@ -74,6 +74,17 @@ module _ (k : Contents) (place : ImagePlace) (r : Rect) (new : ℕ → ℕ → P
     -- and what was written is what was before, and their rectangle
     pub defined_here : (x y : ℕ) → is_defined ((with_pixels k place r new).images place x y) ≡ (has r x y || is_defined (k.images place x y))
     defined_here x y = ap is_defined (pixel_here x y) ∙ defined_by (has r x y) (new x y) (k.images place x y) (all x y)
+
+module _ (k : Contents) (number : ℕ) (new : ℕ → ℕ → Pixel) where
+  pub storage_here : (with_storage k number new).renderbuffers number ≡ new
+  storage_here = λ j x y. (ap (λ (b : Bool). if b then new x y else k.renderbuffers number x y) (same_number number)) j
+
+  pub storage_elsewhere : (other : ℕ) → (number == other) ≡ false → (with_storage k number new).renderbuffers other ≡ k.renderbuffers other
+  storage_elsewhere other e = λ j x y. (ap (λ (b : Bool). if b then new x y else k.renderbuffers other x y) e) j
+
+  -- new storage reads as its pixels do
+  pub read_storage : read_contents (with_storage k number new) ≡ with_storage (read_contents k) number (λ x y. read_pixel (new x y))
+  read_storage = λ j. record (read_contents k) { renderbuffers = λ n x y. read_by (number == n) (new x y) (k.renderbuffers n x y) j }
 
 -- an image without data, never written, reads as zero
 pub read_new : (payload : Payload) (v : LevelView) (x y : ℕ) → read_pixel (new_pixels Undefined payload v x y) ≡ new_pixels Zero payload v x y
@@ -156,3 +167,20 @@ module _ (k : Contents) (place : ImagePlace) (v : LevelView) (r : Rect) (cover :
   whole_defined x y xw yh =
       defined_zeroed k place (rest_of v.width v.height r) x y ∙ ap (λ b. b || is_defined (k.images place x y)) ((rest_is v.width v.height r cover.inside).exact x y xw yh)
       ∙ ap (λ b. not (has r x y) || b) (cover.exact x y xw yh) ∙ not-or_self (has r x y)
+
+-- zeroings of one image change no renderbuffer
+pub zeroed_storages : (k : Contents) (place : ImagePlace) (rs : List Rect) → (zeroed_rects k place rs).renderbuffers ≡ k.renderbuffers
+zeroed_storages k place [] = refl
+zeroed_storages k place (r ∷ rs) = zeroed_storages (zeroed_rect k place r) place rs
+
+-- Renderbuffers
+
+-- a renderbuffer becomes zero
+abbrev pub zeroed_storage : Contents → ℕ → Contents
+zeroed_storage k number = with_storage k number (λ x y. Zero)
+
+-- where nothing of it was written, that reads as before
+pub read_zeroed_storage : (k : Contents) (number : ℕ) → ((x y : ℕ) → k.renderbuffers number x y ≡ Undefined) → read_contents (zeroed_storage k number) ≡ read_contents k
+read_zeroed_storage k number h = λ j. record (read_contents k) {
+  renderbuffers = λ n x y. zero_by (number == n) (k.renderbuffers n x y) (λ b. subst (λ (n : ℕ). k.renderbuffers n x y ≡ Undefined) (eqb-true number n b) (h x y)) j;
+}

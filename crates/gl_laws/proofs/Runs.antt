@@ -8,9 +8,9 @@ use Rattle.gl_plain.specs.Oracle.{Oracle}
 use Rattle.gl_plain.specs.driver.Answers.{told}
 use Rattle.gl_plain.specs.State.{WireState, DriverState}
 use Rattle.gl_plain.specs.Commands.{command_of}
-use Rattle.gl_plain.specs.Meaning.{Meaning, meaning_if, meaning_by, meaning_of}
-use Rattle.gl_plain.specs.subjects.Buckets.{breaks_bucket_rule}
-use Rattle.gl_plain.specs.Wire.{data_words, given_to}
+use Rattle.gl_plain.specs.Meaning.{Meaning, breaks_a_bucket_rule, command_meaning, delivering, meaning_if, meaning_by, meaning_of}
+use Rattle.gl_plain.specs.declared.driver_calls.DriverCall.{DriverCall}
+use Rattle.gl_plain.specs.Wire.{given_to, reply_bucket}
 use Rattle.gl_plain.specs.Journal.{IsLegal, state_after, records_in}
 use Rattle.gl_plain.specs.Parts.{calls_in, IsPartOf, AreParts}
 use Rattle.gl_plain.specs.Records.{Record, contents_behind, records_made, run_records}
@@ -26,17 +26,34 @@ pub record PartLeft (m : Meaning WireState) (w : WireState) (d : DriverState) (c
   pub contents : read_contents (state_after d es).contents ≡ contents_behind w c payload before (read_contents d.contents)
   pub records : records_in d es ≡ records_made w c payload before (read_contents d.contents)
 
--- where it may break a rule of its bucket
+-- a reply that goes into a bucket changes the buckets alone
+delivered : (b : Option ℕ) (w : WireState) (d : DriverState) (c : Command) (payload : List ℕ) (m : Meaning WireState) (before after : Oracle) (es : List DriverEntry) → PartLeft m w d (Some c) payload before after es
+    → PartLeft (delivering b m) w d (Some c) payload before after es
+delivered None w d c payload m before after es left = left
+delivered (Some b) w d c payload m before after es left =
+    record { asked = left.asked; agrees = record { tables = left.agrees.tables; images = left.agrees.images; aligned = left.agrees.aligned }; contents = left.contents; records = left.records }
+
+pub delivered_bad : (b : Option ℕ) (m : Meaning WireState) → (delivering b m).bad ≡ m.bad
+delivered_bad None m = refl
+delivered_bad (Some b) m = refl
+
+pub delivered_calls : (b : Option ℕ) (m : Meaning WireState) → (delivering b m).calls ≡ m.calls
+delivered_calls None m = refl
+delivered_calls (Some b) m = refl
+
+-- where it may break a rule on buckets
 left_if : (broken : Bool) (w : WireState) (d : DriverState) (c : Command) (payload : List ℕ) → Agrees w d → (meaning_if broken w c payload).bad ≡ false → (o : Oracle) (es : List DriverEntry) → IsLegal d es
     → calls_in es ≡ (meaning_if broken w c payload).calls (told es o) → PartLeft (meaning_if broken w c payload) w d (Some c) payload (told es o) o es
 left_if true w d c payload a fair o es l h = absurd (cc)
 left_if false w d c payload a fair o es l h =
-    let left = leaves_it w d a c (given_to w c payload) fair o es l h in record { asked = left.asked; agrees = left.agrees; contents = left.contents; records = left.records }
+    let m = command_meaning w c (given_to w c payload) in
+    let left = leaves_it w d a c (given_to w c payload) (sym (delivered_bad (reply_bucket c) m) ∙ fair) o es l (h ∙ ap (λ (calls : Oracle → List DriverCall). calls (told es o)) (delivered_calls (reply_bucket c) m)) in
+    delivered (reply_bucket c) w d c payload m (told es o) o es (record { asked = left.asked; agrees = left.agrees; contents = left.contents; records = left.records })
 
 pub part_left : (w : WireState) (d : DriverState) (c : Option Command) (payload : List ℕ) → Agrees w d → (meaning_by w c payload).bad ≡ false → (o : Oracle) (es : List DriverEntry) → IsLegal d es → calls_in es ≡ (meaning_by w c payload).calls (told es o)
     → PartLeft (meaning_by w c payload) w d c payload (told es o) o es
 part_left w d None payload a fair o es l h = absurd (cc)
-part_left w d (Some c) payload a fair o es l h = left_if (breaks_bucket_rule w.buckets (data_words c)) w d c payload a fair o es l h
+part_left w d (Some c) payload a fair o es l h = left_if (breaks_a_bucket_rule w c) w d c payload a fair o es l h
 
 abbrev HasParts : Bool → WireState → Fetched → List Fetched → Oracle → List DriverEntry → Type 0
 HasParts bad w f fs o entries = MatchBool bad (entries ≡ [])

@@ -11,9 +11,10 @@ use Rattle.gl_plain.specs.declared.driver_calls.DriverCall.{DriverCall}
 use Rattle.gl_plain.specs.declared.driver_calls.DriverCall.TheVariants.{Object}
 use Rattle.gl_plain.specs.declared.driver_calls.DriverEntry.{DriverEntry}
 use Rattle.gl_plain.specs.declared.driver_calls.ObjectDriver.TheVariants as calls
-use Rattle.gl_plain.specs.subjects.Names.{is_bind_over_limit}
+use Rattle.gl_plain.specs.subjects.Names.{gen_is_bad, is_bind_over_limit}
 use Rattle.gl_plain.specs.subjects.Levels.{is_texture_target, is_cube_target}
-use Rattle.gl_plain.specs.subjects.Textures.{gen_textures_is_bad, is_of_other_target, bind_texture_refusal, bind_texture_effect, delete_textures_by, delete_textures_calls, TexturesAgree}
+use Rattle.gl_plain.specs.subjects.Textures.{is_of_other_target, bind_texture_refusal, bind_texture_effect, delete_textures_by, delete_textures_calls, delete_textures_effect, without_texture, TexturesAgree}
+use Rattle.gl_plain.specs.subjects.Targets.{FramebuffersAgree, detach, detach_deleted}
 use Rattle.gl_plain.specs.Oracle.{Oracle}
 use Rattle.gl_plain.specs.State.{EsState, DriverState}
 use Rattle.gl_plain.specs.Spaces.{Textures}
@@ -28,12 +29,13 @@ use Rattle.gl_plain.specs.object.Calls.{bind_texture_call}
 use Rattle.gl_laws.proofs.Lists.{entry, no_entry, one_entry, front_of_one, not_nil}
 use Rattle.gl_laws.proofs.OwnLaws.{StepLeft, OwnMayGoOn, OwnLeaves}
 use Rattle.gl_laws.proofs.Refusals.{or_false, not_false, none_of, not_refused_by}
-use Rattle.gl_laws.proofs.Tables.{with_textures}
+use Rattle.gl_laws.proofs.Tables.{with_textures, with_framebuffers}
+use Rattle.gl_laws.proofs.TargetsAgree.{agree_detached}
 use Rattle.gl_laws.proofs.TexturesAgree.{same_target, agree_texture_bound, agree_texture_unbound, agree_texture_deleted}
 use Rattle.gl_laws.proofs.Binds.{IsBind, agree_gen, some_is, bind_may, bind_leaves}
 
 -- GenTextures
-module _ (s : EsState) (d : DriverState) (a : TablesAgree s d.tables) (id : ℕ) (payload : List ℕ) (fair : gen_textures_is_bad s.textures.names id ≡ false) where
+module _ (s : EsState) (d : DriverState) (a : TablesAgree s d.tables) (id : ℕ) (payload : List ℕ) (fair : gen_is_bad s.textures.names id ≡ false) where
   pub gen_textures_may : OwnMayGoOn s d (GenTextures id) payload
   gen_textures_may o es next more l h = front_of_one (λ (gs : List DriverEntry) (x : DriverCall). IsAllowed (state_after d gs) x) (Object calls.GenTexture) tt es next more h
 
@@ -41,7 +43,7 @@ module _ (s : EsState) (d : DriverState) (a : TablesAgree s d.tables) (id : ℕ)
   free = none_of (map.get s.textures.names id) (or_false (not (is_ordinary id)) (is_some (map.get s.textures.names id)) fair).1
 
   positive : id ≢ 0
-  positive zero = let no : gen_textures_is_bad s.textures.names 0 ≡ false = subst (λ (k : ℕ). gen_textures_is_bad s.textures.names k ≡ false) zero fair in absurd (cc)
+  positive zero = let no : gen_is_bad s.textures.names 0 ≡ false = subst (λ (k : ℕ). gen_is_bad s.textures.names k ≡ false) zero fair in absurd (cc)
 
   gen_by : (o : Oracle) (answer : Answer) → IsLegal d (entry (Object calls.GenTexture) answer ∷ []) → StepLeft d (object_step s (GenTextures id) payload (told (entry (Object calls.GenTexture) answer ∷ []) o)) o (entry (Object calls.GenTexture) answer ∷ [])
   gen_by o (Name n) l = record { asked = refl; agrees = agree_gen Textures s d.tables a id n free positive l.0.answered; contents = refl; records = refl }
@@ -102,12 +104,15 @@ module _ (s : EsState) (d : DriverState) (a : TablesAgree s d.tables) (id : ℕ)
   pub delete_textures_may : OwnMayGoOn s d (DeleteTextures id) payload
   delete_textures_may o es next more l h = delete_may_by (map.get s.textures.names id) refl es next more h
 
-  delete_by : (found : Option names.Name) → map.get s.textures.names id ≡ found → (o : Oracle) (es : List DriverEntry) → calls_in es ≡ delete_textures_calls found → StepLeft d (leaves (record s { textures = delete_textures_by s.textures id found }) (told es o)) o es
+  delete_by : (found : Option names.Name) → map.get s.textures.names id ≡ found → (o : Oracle) (es : List DriverEntry) → calls_in es ≡ delete_textures_calls found → StepLeft d (leaves (record s { textures = delete_textures_by s.textures id found; framebuffers = detach_deleted s.framebuffers true found }) (told es o)) o es
   delete_by None e o es h = no_entry (λ (gs : List DriverEntry). StepLeft d (leaves s (told gs o)) o gs) (record { asked = refl; agrees = a; contents = refl; records = refl }) es h
-  delete_by (Some x) e o es h = one_entry (λ (gs : List DriverEntry). StepLeft d (leaves (record s { textures = delete_textures_by s.textures id (Some x) }) (told gs o)) o gs) (Object (calls.DeleteTexture x.number))
+  delete_by (Some x) e o es h = one_entry (λ (gs : List DriverEntry). StepLeft d (leaves (record s { textures = delete_textures_by s.textures id (Some x); framebuffers = detach_deleted s.framebuffers true (Some x) }) (told gs o)) o gs) (Object (calls.DeleteTexture x.number))
       (λ answer. record {
         asked = refl;
-        agrees = with_textures s d.tables _ _ a (agree_texture_deleted s.textures d.tables.textures d.tables.given.textures a.textures id x e);
+        agrees = with_framebuffers (record s { textures = without_texture s.textures id x.number }) (record d.tables { textures = delete_textures_effect d.tables.textures x.number }) _ _
+            (with_textures s d.tables _ _ a (agree_texture_deleted s.textures d.tables.textures d.tables.given.textures a.textures id x e))
+            (subst (λ (found : Option names.Name). FramebuffersAgree (detach s.framebuffers true x.number) (detach_deleted d.tables.framebuffers true found) d.tables.given.framebuffers) (sym (a.textures.names.live id x e))
+            (agree_detached s.framebuffers d.tables.framebuffers d.tables.given.framebuffers a.framebuffers true x.number));
         contents = refl;
         records = refl;
       }) es h

@@ -1,5 +1,5 @@
 -- At the opening the service and its driver agree.
-use Rattle.std.proofs.Common.{◌≡◌, ℕ, ◌+◌, ◌*◌, ◌==◌, ◌&&◌, nat_le, if◌then◌else◌, Bool, true, false, refl, sym, ap, subst, replicate, slice_index_or, Option, None, Some}
+use Rattle.std.proofs.Common.{◌≡◌, ℕ, ◌+◌, ◌*◌, ◌==◌, ◌&&◌, nat_le, if◌then◌else◌, Bool, true, false, refl, sym, ap, ◌∙◌, subst, inl, replicate, slice_index_or, Option, None, Some}
 use Prim.Native.Nat.{zero, suc}
 use Rattle.std.specs.FinMap as map
 use Rattle.std.specs.Ordering.{nat_cmp}
@@ -14,7 +14,10 @@ use Rattle.gl_plain.specs.declared.textures.Texture.{Texture}
 use Rattle.gl_plain.specs.declared.textures.TextureUnit.{TextureUnit}
 use Rattle.gl_plain.specs.subjects.Levels.{is_cube_face, suits, face_count, level_index, level_of, level_in, new_texture}
 use Rattle.gl_plain.specs.subjects.Textures.{no_textures, default_texture, level_at, no_binding, no_bindings, unit_at, bound_in, texture_at, IsOfKind, AreTexturesSound}
-use Rattle.gl_plain.specs.subjects.Images.{Undefined, IsCovered, no_covers, no_rect}
+use Rattle.gl_plain.specs.declared.targets.Framebuffer.{Framebuffer}
+use Rattle.gl_plain.specs.declared.targets.Renderbuffer.{Renderbuffer}
+use Rattle.gl_plain.specs.subjects.Targets.{AreObjectsSound, no_objects, unnamed_at, renderbuffer_image, renderbuffer_at}
+use Rattle.gl_plain.specs.subjects.Images.{Undefined, IsCovered, IsMarked, no_covers, no_marks, no_rect}
 use Rattle.gl_plain.specs.subjects.Names.{NamesAgree}
 use Rattle.gl_plain.specs.subjects.Programs.{AreInverse, AreAlike}
 use Rattle.gl_plain.specs.State.{Surface, opening_wire, opening_driver}
@@ -105,6 +108,23 @@ no_textures_sound = record {
   bound = λ unit cube. subst (λ (u : TextureUnit). IsOfKind cube (texture_at no_textures.objects (bound_in u cube) cube)) (sym (no_binding_at unit)) (default_kind cube);
 }
 
+-- no renderbuffer and no framebuffer is there
+no_object : (X : Type 0) (key : ℕ) (x : X) → map.get (map.empty {X = X} {R = nat_cmp}) key ≡ Some x → ⊥
+no_object X key x e = let none : map.get (map.empty {X = X} {R = nat_cmp}) key ≡ None = map.get-empty nat_cmp key in cc
+
+nothing_sound : {X : Type 0} → AreObjectsSound (no_objects {X = X})
+nothing_sound {X} = record {
+  made = λ id name e. absurd (absent id name e);
+  owned = λ n x e. absurd (no_object X n x e);
+  bound = inl refl;
+}
+
+nothing_attached : (n : ℕ) → unnamed_at (map.get (map.empty {X = Framebuffer} {R = nat_cmp}) n) ≡ map.get (map.empty {X = Framebuffer} {R = nat_cmp}) n
+nothing_attached n = ap unnamed_at (map.get-empty {X = Framebuffer} nat_cmp n) ∙ sym (map.get-empty {X = Framebuffer} nat_cmp n)
+
+nothing_marked : (n : ℕ) → IsMarked (renderbuffer_at (map.empty {X = Renderbuffer} {R = nat_cmp}) n) (no_marks n) (λ x y. Undefined)
+nothing_marked n = subst (λ r. IsMarked (renderbuffer_image r) false (λ x y. Undefined)) (sym (map.get-empty {X = Renderbuffer} nat_cmp n)) refl
+
 -- no name is in use, and no image but those of the default framebuffer is there
 pub opening_agrees : (surface : Surface) → Agrees (opening_wire surface) (opening_driver surface)
 opening_agrees surface = record {
@@ -121,6 +141,8 @@ opening_agrees surface = record {
       objects = refl;
       sound = no_textures_sound;
     };
+    renderbuffers = record { names = no_names; objects = refl; bound = refl; sound = nothing_sound };
+    framebuffers = record { names = no_names; attached = λ n. nothing_attached n; bound = refl; sound = nothing_sound };
     attribs = refl;
     raster = refl;
     programs = record {
@@ -133,6 +155,6 @@ opening_agrees surface = record {
       installed = refl;
     };
   };
-  images = record { covers = nothing_written; screen = λ i x y. refl };
-  aligned = refl;
+  images = record { covers = nothing_written; marks = nothing_marked; screen = λ i x y. refl };
+  aligned = record { unpack = refl; pack = refl };
 }

@@ -25,7 +25,7 @@ use Rattle.gl_plain.specs.Commands.{command_in, is_known}
 use Rattle.gl_plain.specs.Wire.{is_bad}
 
 -- which commands are built so far
-built : (is_known 0 ≡ true) × (is_known 1 ≡ true) × (is_known 2 ≡ true) × (is_known 5 ≡ true) × (is_known 6 ≡ false) × (is_known 256 ≡ true) × (is_known 266 ≡ true) × (is_known 267 ≡ false) × (is_known 269 ≡ true) × (is_known 270 ≡ false) × (is_known 279 ≡ false) × (is_known 280 ≡ true) × (is_known 292 ≡ true) × (is_known 296 ≡ true) × (is_known 297 ≡ true) × (is_known 323 ≡ true) × (is_known 324 ≡ false) × (is_known 325 ≡ true) × (is_known 327 ≡ true) × (is_known 328 ≡ false)
+built : (is_known 0 ≡ true) × (is_known 1 ≡ true) × (is_known 2 ≡ true) × (is_known 5 ≡ true) × (is_known 6 ≡ false) × (is_known 256 ≡ true) × (is_known 266 ≡ true) × (is_known 267 ≡ true) × (is_known 269 ≡ true) × (is_known 270 ≡ true) × (is_known 279 ≡ true) × (is_known 280 ≡ true) × (is_known 292 ≡ true) × (is_known 296 ≡ true) × (is_known 297 ≡ true) × (is_known 323 ≡ true) × (is_known 324 ≡ true) × (is_known 325 ≡ true) × (is_known 327 ≡ true) × (is_known 328 ≡ false)
 built = (refl, refl, refl, refl, refl, refl, refl, refl, refl, refl, refl, refl, refl, refl, refl, refl, refl, refl, refl, refl)
 
 abbrev enum : ℕ → GlEnum

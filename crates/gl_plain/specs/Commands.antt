@@ -39,7 +39,7 @@ abbrev pub command_in : ℕ → List ℕ → Option Command
 command_in number words =
     if number == NOOP then Some Noop
     else if number == SET_TOKEN then Some (SetToken (slice_index words 0))
-    else command_by (bucket_command_in number words) (object_command_in number words) (image_command_in number words) (draw_command_in number words) (query_command_in number)
+    else command_by (bucket_command_in number words) (object_command_in number words) (image_command_in number words) (draw_command_in number words) (query_command_in number words)
 
 -- the command that a fetched one spells
 abbrev pub command_of : Fetched → Option Command

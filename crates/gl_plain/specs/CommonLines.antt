@@ -12,7 +12,7 @@ use Rattle.gl_plain.specs.declared.programs.LinkAnswer.{LinkAnswer}
 use Rattle.gl_plain.specs.declared.programs.Uniform.{Uniform}
 use Rattle.gl_plain.specs.declared.programs.Verdict.{Verdict}
 use Rattle.gl_plain.specs.declared.common_lines.CommonLine.{CommonLine}
-use Rattle.gl_plain.specs.declared.common_lines.CommonLine.TheVariants.{Surface, Ring, Oom, Lost, Compile, Link, OfAttribute, OfUniform, Validate}
+use Rattle.gl_plain.specs.declared.common_lines.CommonLine.TheVariants.{Surface, Ring, Oom, Lost, Compile, Link, OfAttribute, OfUniform, Validate, Pixels}
 use Rattle.gl_plain.specs.declared.common_lines.AnswersDraft.{AnswersDraft}
 use Rattle.gl_plain.specs.subjects.Links.{is_log, is_sound_link, may_follow, may_follow_uniforms}
 use Rattle.gl_plain.specs.Oracle.{compile_in, link_in, validate_in}
@@ -154,6 +154,12 @@ validate_line_in text = do
   verdict ← verdict_in text
   Some (Validate verdict)
 
+-- `pixels HEX`, after its word
+unfoldable pub pixels_line_in : List ℕ → Option CommonLine
+pixels_line_in text = do
+  bytes ← bytes_in text
+  Some (Pixels bytes)
+
 -- `attr NAME KIND LOCATION`, after its word
 unfoldable pub attribute_in : List ℕ → Option CommonLine
 attribute_in text = do
@@ -166,7 +172,7 @@ uniform_in text = do
   d ← declaration_in text
   Some (OfUniform (record { name = d.name; kind = d.kind; size = d.number }))
 
--- a line on what a compilation, a link or a validation says, by its word, and by what follows the space behind the word
+-- a line on what a compilation, a link, a validation or a read says, by its word, and by what follows the space behind the word
 unfoldable pub answer_by_word : List ℕ → List ℕ → Option CommonLine
 answer_by_word word rest =
     if is_word (codes "compile") word then compile_line_in rest
@@ -174,6 +180,7 @@ answer_by_word word rest =
     else if is_word (codes "attr") word then attribute_in rest
     else if is_word (codes "uniform") word then uniform_in rest
     else if is_word (codes "validate") word then validate_line_in rest
+    else if is_word (codes "pixels") word then pixels_line_in rest
     else None
 
 -- a line by its word, and by what follows the space behind the word
@@ -187,7 +194,7 @@ common_by_word word rest =
 
 -- no line on answers was read
 abbrev pub no_draft : AnswersDraft
-no_draft = record { compile = []; link = []; last = None; validate = []; oom = []; lost = None }
+no_draft = record { compile = []; link = []; last = None; validate = []; pixels = []; oom = []; lost = None }
 
 -- the list of the last link ends, if it did not before
 abbrev pub closed_by : AnswersDraft → Option LinkAnswer → AnswersDraft
@@ -199,7 +206,7 @@ closed draft = closed_by draft draft.last
 
 -- the answers that the lines say
 abbrev pub answers_in : AnswersDraft → Answers
-answers_in draft = record { compile = draft.compile; link = (closed draft).link; validate = draft.validate; oom = draft.oom; lost = draft.lost }
+answers_in draft = record { compile = draft.compile; link = (closed draft).link; validate = draft.validate; pixels = draft.pixels; oom = draft.oom; lost = draft.lost }
 
 -- `oom` names a question once
 unfoldable pub with_oom : AnswersDraft → ℕ → Option AnswersDraft
@@ -216,6 +223,10 @@ with_compile draft v = if is_log v.log then Some (record draft { compile = draft
 -- `validate` is the next answer of its kind
 unfoldable pub with_validate : AnswersDraft → Verdict → Option AnswersDraft
 with_validate draft v = if is_log v.log then Some (record draft { validate = draft.validate ++ answer.Validate v.ok v.log ∷ [] }) else None
+
+-- `pixels` is the next answer of its kind
+abbrev pub with_pixels : AnswersDraft → List ℕ → AnswersDraft
+with_pixels draft bytes = record draft { pixels = draft.pixels ++ answer.Pixels bytes ∷ [] }
 
 -- a link of which no attribute and no uniform was said
 abbrev pub bare_link : Verdict → LinkAnswer

@@ -1,5 +1,5 @@
--- The zeroings that the written rectangles call for.
-use Rattle.std.specs.Prelude.{List, [], ◌∷◌, ◌++◌, Option, None, Some}
+-- The zeroings that are called for by what was written.
+use Rattle.std.specs.Prelude.{ℕ, Bool, true, false, List, [], ◌∷◌, ◌++◌, Option, None, Some}
 use Rattle.gl_base.specs.declared.rect.Rect.{Rect}
 use Rattle.gl_base.specs.Rects.{whole}
 use Rattle.gl_plain.specs.declared.driver_calls.DriverCall.{DriverCall}
@@ -8,7 +8,9 @@ use Rattle.gl_plain.specs.declared.driver_calls.ImageDriver.TheVariants as calls
 use Rattle.gl_plain.specs.declared.textures.LevelView.{LevelView}
 use Rattle.gl_plain.specs.declared.textures.ImagePlace.{ImagePlace}
 use Rattle.gl_plain.specs.subjects.Textures.{TextureObjects, level_at}
-use Rattle.gl_plain.specs.subjects.Images.{Covers, with_cover, rest_at}
+use Rattle.gl_plain.specs.declared.targets.AnyImage.{AnyImage}
+use Rattle.gl_plain.specs.declared.targets.AnyImage.TheVariants as any
+use Rattle.gl_plain.specs.subjects.Images.{Covers, with_cover, rest_at, Marks, with_mark}
 
 -- what was not written of an image
 abbrev pub unwritten : TextureObjects → Covers → ImagePlace → List Rect
@@ -31,12 +33,25 @@ abbrev pub zero_calls : ImagePlace → List Rect → List DriverCall
 zero_calls place [] = []
 zero_calls place (r ∷ rs) = zero_call place r ∷ zero_calls place rs
 
--- the calls that zero what was not written of these images, in order
-abbrev pub zeroings : TextureObjects → Covers → List ImagePlace → List DriverCall
-zeroings t f [] = []
-zeroings t f (place ∷ places) = zero_calls place (unwritten t f place) ++ zeroings t (filled t f place) places
+-- the call that zeroes a renderbuffer, where it is not written
+abbrev pub zero_storage : ℕ → (is_written : Bool) → List DriverCall
+zero_storage number true = []
+zero_storage number false = Image (calls.ZeroRenderbuffer number) ∷ []
 
--- what is written after them
-abbrev pub all_filled : TextureObjects → Covers → List ImagePlace → Covers
+-- the calls that zero what was not written of these images, in order
+abbrev pub zeroings : TextureObjects → Covers → Marks → List AnyImage → List DriverCall
+zeroings t f m [] = []
+zeroings t f m (any.Level place ∷ xs) = zero_calls place (unwritten t f place) ++ zeroings t (filled t f place) m xs
+zeroings t f m (any.Renderbuffer number ∷ xs) = zero_storage number (m number) ++ zeroings t f (with_mark m number true) xs
+
+-- what is written of textures after them
+abbrev pub all_filled : TextureObjects → Covers → List AnyImage → Covers
 all_filled t f [] = f
-all_filled t f (place ∷ places) = all_filled t (filled t f place) places
+all_filled t f (any.Level place ∷ xs) = all_filled t (filled t f place) xs
+all_filled t f (any.Renderbuffer number ∷ xs) = all_filled t f xs
+
+-- which renderbuffers are written after them
+abbrev pub all_marked : Marks → List AnyImage → Marks
+all_marked m [] = m
+all_marked m (any.Level place ∷ xs) = all_marked m xs
+all_marked m (any.Renderbuffer number ∷ xs) = all_marked (with_mark m number true) xs

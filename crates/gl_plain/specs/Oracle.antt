@@ -39,30 +39,39 @@ pub record Oracle : Type 0 where
   pub buffers : ℕ → ℕ
   -- the numbers that new textures get
   pub textures : ℕ → ℕ
+  -- the numbers that new renderbuffers get
+  pub renderbuffers : ℕ → ℕ
+  -- the numbers that new framebuffers get
+  pub framebuffers : ℕ → ℕ
   -- the numbers that new shaders and programs get
   pub programs : ℕ → ℕ
   -- what compilations, links and validations say
   pub compile : ℕ → Verdict
   pub link : ℕ → LinkAnswer
   pub validate : ℕ → Verdict
+  -- the pixels that are read, before they are cut or filled to the length that is asked for
+  pub pixels : ℕ → List ℕ
   -- whether there is room for what is to be stored
   pub stored : ℕ → Stored
 
--- the answers where an input gives none: objects are numbered from 1, all goes well, nothing is said or active, and there is room
+-- the answers where an input gives none: objects are numbered from 1, all goes well, nothing is said or active, pixels are zero, and there is room
 abbrev pub default_answers : Oracle
 default_answers = record {
   buffers = counted_from 1;
   textures = counted_from 1;
+  renderbuffers = counted_from 1;
+  framebuffers = counted_from 1;
   programs = counted_from 1;
   compile = λ k. default_verdict;
   link = λ k. default_link;
   validate = λ k. default_verdict;
+  pixels = λ k. [];
   stored = λ k. room.Done;
 }
 
 -- all goes well, there is always room, and the driver is never lost
 abbrev pub no_answers : Answers
-no_answers = record { compile = []; link = []; validate = []; oom = []; lost = None }
+no_answers = record { compile = []; link = []; validate = []; pixels = []; oom = []; lost = None }
 
 -- what a compilation says by the answer that is given for it, if one of that kind is
 abbrev pub compile_in : Option Answer → Verdict
@@ -72,6 +81,7 @@ compile_in (Some (answer.Name n)) = default_verdict
 compile_in (Some answer.Oom) = default_verdict
 compile_in (Some (answer.Link a)) = default_verdict
 compile_in (Some (answer.Validate ok log)) = default_verdict
+compile_in (Some (answer.Pixels bytes)) = default_verdict
 compile_in None = default_verdict
 
 -- what a link says
@@ -82,6 +92,7 @@ link_in (Some (answer.Name n)) = default_link
 link_in (Some answer.Oom) = default_link
 link_in (Some (answer.Compile ok log)) = default_link
 link_in (Some (answer.Validate ok log)) = default_link
+link_in (Some (answer.Pixels bytes)) = default_link
 link_in None = default_link
 
 -- what a validation says
@@ -92,7 +103,19 @@ validate_in (Some (answer.Name n)) = default_verdict
 validate_in (Some answer.Oom) = default_verdict
 validate_in (Some (answer.Compile ok log)) = default_verdict
 validate_in (Some (answer.Link a)) = default_verdict
+validate_in (Some (answer.Pixels bytes)) = default_verdict
 validate_in None = default_verdict
+
+-- the pixels of a read
+abbrev pub pixels_in : Option Answer → List ℕ
+pixels_in (Some (answer.Pixels bytes)) = bytes
+pixels_in (Some answer.Done) = []
+pixels_in (Some (answer.Name n)) = []
+pixels_in (Some answer.Oom) = []
+pixels_in (Some (answer.Compile ok log)) = []
+pixels_in (Some (answer.Link a)) = []
+pixels_in (Some (answer.Validate ok log)) = []
+pixels_in None = []
 
 -- whether there is room where this question is asked, by those that find none
 abbrev pub stored_at : List ℕ → ℕ → Stored
@@ -103,9 +126,12 @@ abbrev pub answers_of : Answers → Oracle
 answers_of given = record {
   buffers = counted_from 1;
   textures = counted_from 1;
+  renderbuffers = counted_from 1;
+  framebuffers = counted_from 1;
   programs = counted_from 1;
   compile = λ k. compile_in (slice_get given.compile k);
   link = λ k. link_in (slice_get given.link k);
   validate = λ k. validate_in (slice_get given.validate k);
+  pixels = λ k. pixels_in (slice_get given.pixels k);
   stored = stored_at given.oom;
 }

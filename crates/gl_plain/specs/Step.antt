@@ -13,15 +13,16 @@ use Rattle.gl_plain.specs.image.Step.{image_outcome}
 use Rattle.gl_plain.specs.subjects.Raster.{raster_refusal}
 use Rattle.gl_plain.specs.draw.Refusal.{draw_refusal}
 use Rattle.gl_plain.specs.draw.Step.{raster_set, draw_call_effect}
+use Rattle.gl_plain.specs.query.Refusal.{query_refusal}
 use Rattle.gl_plain.specs.query.Step.{query_outcome}
 
 -- the code that a call is refused with, if any
 abbrev pub refusal : EsState → Call → Option GlError
 refusal s (Object call) = object_refusal s call
-refusal s (Image call) = image_refusal s.textures.objects call
+refusal s (Image call) = image_refusal s call
 refusal s (Raster number words) = raster_refusal number words
 refusal s (Draw call) = draw_refusal (sources_of s) call
-refusal s (Query call) = None
+refusal s (Query call) = query_refusal s call
 
 -- a call that is not refused
 abbrev pub outcome : EsState → Choice → Call → Oracle → Outcome EsState

@@ -7,6 +7,9 @@ use Rattle.gl_plain.specs.declared.commands.DataWords.{DataWords}
 use Rattle.gl_plain.specs.declared.commands.ArrayWords.{ArrayWords}
 use Rattle.gl_plain.specs.declared.image_words.ImageWords.{ImageWords}
 use Rattle.gl_plain.specs.declared.image_words.PartWords.{PartWords}
+use Rattle.gl_plain.specs.declared.image_words.CopyWords.{CopyWords}
+use Rattle.gl_plain.specs.declared.image_words.CopyPartWords.{CopyPartWords}
+use Rattle.gl_plain.specs.declared.image_words.ReadWords.{ReadWords}
 
 -- the number is below 0
 abbrev pub is_negative : ℤ → Bool
@@ -49,3 +52,15 @@ image_at words = record { target = enum_at words 0; level = signed_at words 1; i
 -- the words of TexSubImage2D before its data
 abbrev pub part_at : List ℕ → PartWords
 part_at words = record { target = enum_at words 0; level = signed_at words 1; x = signed_at words 2; y = signed_at words 3; width = signed_at words 4; height = signed_at words 5; format = enum_at words 6; kind = enum_at words 7 }
+
+-- the words of CopyTexImage2D
+abbrev pub copy_at : List ℕ → CopyWords
+copy_at words = record { target = enum_at words 0; level = signed_at words 1; internal = enum_at words 2; x = signed_at words 3; y = signed_at words 4; width = signed_at words 5; height = signed_at words 6; border = signed_at words 7 }
+
+-- the words of CopyTexSubImage2D
+abbrev pub copy_part_at : List ℕ → CopyPartWords
+copy_part_at words = record { target = enum_at words 0; level = signed_at words 1; xoffset = signed_at words 2; yoffset = signed_at words 3; x = signed_at words 4; y = signed_at words 5; width = signed_at words 6; height = signed_at words 7 }
+
+-- the words of ReadPixels before its bucket
+abbrev pub read_at : List ℕ → ReadWords
+read_at words = record { x = signed_at words 0; y = signed_at words 1; width = signed_at words 2; height = signed_at words 3; format = enum_at words 4; kind = enum_at words 5 }

@@ -11,7 +11,11 @@ pub mod Levels
 pub mod Completeness
 pub mod Viewed
 pub mod Textures
+pub mod Targets
+pub mod Points
 pub mod Images
+pub mod Mipmaps
+pub mod Copies
 pub mod Raster
 pub mod Draws
 pub mod Clears

@@ -1,6 +1,6 @@
 //! The calls of OpenGL ES, and their replies.
 
-use crate::{Bytes, ImageWords, PartWords, Seq, Words};
+use crate::{Bytes, CopyPartWords, CopyWords, ImageWords, PartWords, ReadWords, Seq, Words};
 use gl_base::{FloatBits, GlEnum};
 
 /// The data that a call is given.
@@ -56,6 +56,39 @@ pub enum ObjectCall {
     },
     DeleteTextures {
         textures: Names,
+    },
+    GenRenderbuffers {
+        count: i32,
+    },
+    BindRenderbuffer {
+        target: GlEnum,
+        renderbuffer: u32,
+    },
+    DeleteRenderbuffers {
+        renderbuffers: Names,
+    },
+    GenFramebuffers {
+        count: i32,
+    },
+    BindFramebuffer {
+        target: GlEnum,
+        framebuffer: u32,
+    },
+    DeleteFramebuffers {
+        framebuffers: Names,
+    },
+    FramebufferTexture2D {
+        target: GlEnum,
+        attachment: GlEnum,
+        textarget: GlEnum,
+        texture: u32,
+        level: i32,
+    },
+    FramebufferRenderbuffer {
+        target: GlEnum,
+        attachment: GlEnum,
+        rbtarget: GlEnum,
+        renderbuffer: u32,
     },
     VertexAttrib4f {
         index: u32,
@@ -128,7 +161,7 @@ pub enum ObjectCall {
     },
 }
 
-/// A call on an image of a texture, or on a texture's parameters.
+/// A call on an image of a texture or of a renderbuffer, or on a texture's parameters.
 #[derive(Debug, Drop)]
 pub enum ImageCall {
     TexImage2D {
@@ -139,10 +172,25 @@ pub enum ImageCall {
         part: PartWords,
         data: Payload,
     },
+    CopyTexImage2D {
+        copy: CopyWords,
+    },
+    CopyTexSubImage2D {
+        copy: CopyPartWords,
+    },
     TexParameteri {
         target: GlEnum,
         pname: GlEnum,
         value: GlEnum,
+    },
+    GenerateMipmap {
+        target: GlEnum,
+    },
+    RenderbufferStorage {
+        target: GlEnum,
+        format: GlEnum,
+        width: i32,
+        height: i32,
     },
 }
 
@@ -170,9 +218,10 @@ pub enum DrawCall {
     Finish,
 }
 
-/// A call that asks for state.
+/// A call that asks for state, or for pixels.
 #[derive(Clone, Copy, Debug, PartialEq, Eq)]
 pub enum QueryCall {
+    ReadPixels { words: ReadWords },
     GetError,
 }
 

@@ -2,7 +2,7 @@
 ghost use Rattle.std.specs.Prelude.{◌≡◌, ◌==◌, ◌&&◌, [], ◌∷◌, ◌++◌, length, if◌then◌else◌, IfOk, OnOk, OnErr};
 ghost use Rattle.std.specs.Option.{option_map};
 ghost use Rattle.gl_plain.specs.subjects.Links.{may_follow, may_follow_uniforms};
-ghost use Rattle.gl_plain.specs.CommonLines.{answers_in, attribute_in, closed, common_by_word, compile_line_in, declaration_in, answer_by_word, booleans_named, floats_named, integers_named, is_word, kind_in, kind_named, link_line_in, matrix_named, sampler_named, lost_in, no_draft, oom_in, outcome_in, ring_in, surface_in, uniform_in, validate_line_in, verdict_in, with_attribute, with_compile, with_link, with_lost, with_oom, with_uniform, with_validate};
+ghost use Rattle.gl_plain.specs.CommonLines.{answers_in, attribute_in, closed, common_by_word, compile_line_in, declaration_in, answer_by_word, booleans_named, floats_named, integers_named, is_word, kind_in, kind_named, link_line_in, matrix_named, sampler_named, lost_in, no_draft, oom_in, outcome_in, ring_in, surface_in, uniform_in, validate_line_in, pixels_line_in, verdict_in, with_attribute, with_compile, with_link, with_lost, with_oom, with_pixels, with_uniform, with_validate};
 
 use crate::distinct::DistinctNumbers;
 use crate::fields::{bytes, cut, number};
@@ -39,6 +39,8 @@ pub enum CommonLine {
     OfUniform(Uniform),
     /// What the next validation says.
     Validate(Verdict),
+    /// The pixels that the next read gives.
+    Pixels(Bytes),
 }
 
 #[tactic(auto, unfolding(crate::specs::CommonLines::surface_in))]
@@ -129,6 +131,16 @@ fn validate_line(alloc: Global, text: &[u8]) -> Result<Option<CommonLine>, Alloc
 {
     match verdict(alloc, text)? {
         Some(verdict) => Ok(Some(CommonLine::Validate(verdict))),
+        None => Ok(None),
+    }
+}
+
+#[tactic(auto, unfolding(crate::specs::CommonLines::pixels_line_in))]
+fn pixels_line(alloc: Global, text: &[u8]) -> Result<Option<CommonLine>, AllocError>
+    ensures { IfOk result (λ line. line ≡ pixels_line_in text.now) }
+{
+    match bytes(alloc, text)? {
+        Some(pixels) => Ok(Some(CommonLine::Pixels(pixels))),
         None => Ok(None),
     }
 }
@@ -322,6 +334,9 @@ fn answer_line(alloc: Global, word: &[u8], rest: &[u8]) -> Result<Option<CommonL
     if is_word(word, b"validate") {
         return validate_line(alloc, rest);
     }
+    if is_word(word, b"pixels") {
+        return pixels_line(alloc, rest);
+    }
     Ok(None)
 }
 
@@ -384,6 +399,7 @@ pub struct AnswersDraft {
     /// The last link, while lines on its attributes and uniforms may follow.
     last: Option<LinkAnswer>,
     validate: AnswerList,
+    pixels: AnswerList,
     oom: DistinctNumbers,
     lost: Option<u32>,
 }
@@ -398,6 +414,7 @@ impl AnswersDraft {
             link: AnswerList::new(alloc),
             last: None,
             validate: AnswerList::new(alloc),
+            pixels: AnswerList::new(alloc),
             oom: DistinctNumbers::new(alloc),
             lost: None,
         }
@@ -450,6 +467,15 @@ impl AnswersDraft {
         }
         self.validate.push(Answer::Validate { ok, log })?;
         Ok(true)
+    }
+
+    /// Takes a line `pixels`. Where there is no memory, all is as before.
+    pub fn take_pixels(&mut self, bytes: Bytes) -> Result<(), AllocError>
+        ensures ok { OnOk result (self.new ≡ with_pixels self.old bytes) }
+        ensures err { OnErr result (self.new ≡ self.old) }
+    {
+        self.pixels.push(Answer::Pixels(bytes))?;
+        Ok(())
     }
 
     /// Takes a line `link`, which ends the list of the link before. The answer is whether its log is short enough; else all is as before.
@@ -522,6 +548,7 @@ impl AnswersDraft {
             link,
             last: _,
             validate,
+            pixels,
             oom,
             lost,
         } = self;
@@ -529,6 +556,7 @@ impl AnswersDraft {
             compile,
             link,
             validate,
+            pixels,
             oom: oom.into_words(),
             lost,
         })

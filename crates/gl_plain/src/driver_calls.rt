@@ -2,7 +2,7 @@
 ghost use Rattle.std.specs.Prelude.{◌≡◌};
 ghost use Rattle.gl_plain.specs.Oracle.{no_answers};
 
-use crate::{Bytes, ImagePlace, LinkAnswer, PartWords, Payload, Seq, Words};
+use crate::{Bytes, CopyPartWords, ImagePlace, LinkAnswer, PartWords, Payload, Seq, Words};
 use gl_base::{GlEnum, Rect};
 use std::alloc::Global;
 
@@ -35,6 +35,31 @@ pub enum ObjectDriver {
     DeleteTexture {
         name: u64,
     },
+    GenRenderbuffer,
+    BindRenderbuffer {
+        name: u64,
+    },
+    DeleteRenderbuffer {
+        name: u64,
+    },
+    GenFramebuffer,
+    BindFramebuffer {
+        name: u64,
+    },
+    DeleteFramebuffer {
+        name: u64,
+    },
+    /// Level 0 of a texture is attached to the framebuffer that is bound, or nothing for the name 0.
+    FramebufferTexture {
+        attachment: GlEnum,
+        textarget: GlEnum,
+        name: u64,
+    },
+    /// A renderbuffer is attached to the framebuffer that is bound, or nothing for the name 0.
+    FramebufferRenderbuffer {
+        attachment: GlEnum,
+        name: u64,
+    },
     /// The constant value of a vertex attribute, as four float patterns.
     VertexAttrib4 {
         index: u32,
@@ -55,7 +80,7 @@ pub enum ObjectDriver {
     },
 }
 
-/// A driver call on an image of a texture, or on a texture's parameters.
+/// A driver call on an image of a texture or of a renderbuffer, or on a texture's parameters, or one that reads pixels.
 #[derive(Debug, Drop)]
 pub enum ImageDriver {
     /// A new image for a level of what the target binds: its rows without padding, or none.
@@ -82,6 +107,40 @@ pub enum ImageDriver {
         target: GlEnum,
         pname: GlEnum,
         value: GlEnum,
+    },
+    /// A new image for a level of what the target binds, from a rectangle of what is drawn to.
+    CopyTexImage {
+        target: GlEnum,
+        level: i32,
+        format: GlEnum,
+        x: i32,
+        y: i32,
+        width: i32,
+        height: i32,
+    },
+    /// A rectangle of a level of what the target binds, from one of what is drawn to.
+    CopyTexSubImage {
+        copy: CopyPartWords,
+    },
+    GenerateMipmap {
+        target: GlEnum,
+    },
+    /// A new image for the renderbuffer that is bound.
+    RenderbufferStorage {
+        format: GlEnum,
+        width: i32,
+        height: i32,
+    },
+    /// The image of a renderbuffer that was not written becomes zero.
+    ZeroRenderbuffer {
+        name: u64,
+    },
+    /// A rectangle of the colours that are drawn to, as RGBA in four bytes.
+    ReadPixels {
+        x: i32,
+        y: i32,
+        width: i32,
+        height: i32,
     },
 }
 
@@ -190,6 +249,8 @@ pub enum Answer {
     Link(LinkAnswer),
     /// What a validation said.
     Validate { ok: bool, log: Bytes },
+    /// The pixels that were read.
+    Pixels(Bytes),
 }
 
 /// Answers of one kind, in the order in which they are given.
@@ -213,7 +274,7 @@ pub struct DriverEntry {
 pub type EntryList = Seq<DriverEntry>;
 
 /// The answers that a driver is given before it is called, and the call at which it is lost. Where the answers of a kind run out, it went
-/// well, the log is empty, and there are no attributes and no uniforms. So it is in place of an answer of another kind.
+/// well, the log is empty, there are no attributes and no uniforms, and pixels are zero. So it is in place of an answer of another kind.
 #[derive(Debug, Drop)]
 pub struct Answers {
     /// What compilations say.
@@ -222,6 +283,8 @@ pub struct Answers {
     pub link: AnswerList,
     /// What validations say.
     pub validate: AnswerList,
+    /// The pixels that are read. Each is cut or filled with zeros to the length that is asked for.
+    pub pixels: AnswerList,
     /// Which of the calls that ask for room, counted from 0, find none.
     pub oom: Words,
     /// How many calls are answered before the driver is lost, if it ever is.
@@ -237,6 +300,7 @@ impl Answers {
             compile: AnswerList::new(alloc),
             link: AnswerList::new(alloc),
             validate: AnswerList::new(alloc),
+            pixels: AnswerList::new(alloc),
             oom: Words::new(alloc),
             lost: None,
         }

@@ -16,43 +16,125 @@ pub mod links;
 mod memory;
 pub mod numbers;
 mod objects;
+mod pixels;
 mod programs;
 mod raster;
 mod seq;
+mod spelling;
 mod stop;
+mod targets;
 mod texture_targets;
 mod textures;
 
-pub use attributes::{ArraySpec, VertexAttribute, VertexAttributes};
-pub use calls::{
-    Call, DrawCall, ImageCall, Names, ObjectCall, Payload, Pointer, QueryCall, Reply, ReplyList,
-};
-pub use commands::{
-    ArrayWords, BucketCommand, Command, DataWords, DrawCommand, Fetched, ImageCommand, Malformed,
-    ObjectCommand, QueryCommand, Stop, is_known,
-};
-pub use common_lines::{AnswersDraft, CommonLine, common_line};
-pub use completeness::{TextureView, complete_of, is_power_of_two, uses_mipmaps};
-pub use draws::{ArrayView, DrawPlan, DrawView, IndexView, UnitView};
-pub use driver_calls::{
-    Answer, AnswerList, Answers, DrawDriver, DriverCall, DriverEntry, EntryList, ImageDriver,
-    ObjectDriver, ProgramDriver, Stored,
-};
-pub use errors::{Errors, GlError};
-pub use image_words::{ImageWords, PartWords};
-pub use memory::{Patch, PatchList, Region, RegionList, Timed, TimedList};
-pub use objects::{Buffer, Name};
-pub use programs::{
-    Attribute, AttributeList, BoundLocation, BoundLocationList, Executable, LinkAnswer, Numbers,
-    Program, Shader, Uniform, UniformList, Verdict,
-};
-pub use raster::{Alignments, Capabilities, RasterWords, StencilSide, WordRule};
-pub use seq::{Bytes, Seq, Words};
+pub use attributes::ArraySpec;
+pub use attributes::VertexAttribute;
+pub use attributes::VertexAttributes;
+pub use calls::Call;
+pub use calls::DrawCall;
+pub use calls::ImageCall;
+pub use calls::Names;
+pub use calls::ObjectCall;
+pub use calls::Payload;
+pub use calls::Pointer;
+pub use calls::QueryCall;
+pub use calls::Reply;
+pub use calls::ReplyList;
+pub use commands::ArrayWords;
+pub use commands::BucketCommand;
+pub use commands::Command;
+pub use commands::DataWords;
+pub use commands::DrawCommand;
+pub use commands::Fetched;
+pub use commands::ImageCommand;
+pub use commands::Malformed;
+pub use commands::ObjectCommand;
+pub use commands::QueryCommand;
+pub use commands::Stop;
+pub use common_lines::AnswersDraft;
+pub use common_lines::CommonLine;
+pub use common_lines::common_line;
+pub use completeness::TextureView;
+pub use completeness::complete_of;
+pub use completeness::is_power_of_two;
+pub use completeness::uses_mipmaps;
+pub use draws::ArrayView;
+pub use draws::DrawPlan;
+pub use draws::DrawView;
+pub use draws::IndexView;
+pub use draws::UnitView;
+pub use driver_calls::Answer;
+pub use driver_calls::AnswerList;
+pub use driver_calls::Answers;
+pub use driver_calls::DrawDriver;
+pub use driver_calls::DriverCall;
+pub use driver_calls::DriverEntry;
+pub use driver_calls::EntryList;
+pub use driver_calls::ImageDriver;
+pub use driver_calls::ObjectDriver;
+pub use driver_calls::ProgramDriver;
+pub use driver_calls::Stored;
+pub use errors::Errors;
+pub use errors::GlError;
+pub use image_words::CopyPartWords;
+pub use image_words::CopyWords;
+pub use image_words::ImageWords;
+pub use image_words::PartWords;
+pub use image_words::ReadWords;
+pub use memory::Patch;
+pub use memory::PatchList;
+pub use memory::Region;
+pub use memory::RegionList;
+pub use memory::Timed;
+pub use memory::TimedList;
+pub use objects::Buffer;
+pub use objects::Name;
+pub use pixels::is_format;
+pub use pixels::is_pixel_kind;
+pub use pixels::natural;
+pub use programs::Attribute;
+pub use programs::AttributeList;
+pub use programs::BoundLocation;
+pub use programs::BoundLocationList;
+pub use programs::Executable;
+pub use programs::LinkAnswer;
+pub use programs::Numbers;
+pub use programs::Program;
+pub use programs::Shader;
+pub use programs::Uniform;
+pub use programs::UniformList;
+pub use programs::Verdict;
+pub use raster::Alignments;
+pub use raster::Capabilities;
+pub use raster::RasterWords;
+pub use raster::StencilSide;
+pub use raster::WordRule;
+pub use seq::Bytes;
+pub use seq::Seq;
+pub use seq::Words;
+pub use spelling::is_known;
 pub use stop::ExecStop;
-pub use texture_targets::{
-    is_cube_face, is_cube_target, is_image_target, is_texture_target, level_index,
-};
-pub use textures::{ImagePlace, LevelList, LevelView, Texture, TextureUnit, TextureUnits};
+pub use targets::AnyImage;
+pub use targets::AttachView;
+pub use targets::Attached;
+pub use targets::Framebuffer;
+pub use targets::Renderbuffer;
+pub use targets::Target;
+pub use targets::has_alpha;
+pub use targets::is_attachment;
+pub use targets::is_colour_storage;
+pub use targets::is_storage;
+pub use targets::status_of;
+pub use texture_targets::is_cube_face;
+pub use texture_targets::is_cube_target;
+pub use texture_targets::is_image_target;
+pub use texture_targets::is_texture_target;
+pub use texture_targets::level_index;
+pub use textures::ImagePlace;
+pub use textures::LevelList;
+pub use textures::LevelView;
+pub use textures::Texture;
+pub use textures::TextureUnit;
+pub use textures::TextureUnits;
 
 #[cfg(test)]
 mod tests;

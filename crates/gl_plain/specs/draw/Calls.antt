@@ -10,8 +10,9 @@ use Rattle.gl_plain.specs.declared.draws.DrawPlan.{DrawPlan}
 use Rattle.gl_plain.specs.declared.errors.GlError.{GlError}
 use Rattle.gl_plain.specs.subjects.Textures.{unit_number}
 use Rattle.gl_plain.specs.subjects.Raster.{is_driver_raster, kept_words}
-use Rattle.gl_plain.specs.declared.textures.ImagePlace.{ImagePlace}
-use Rattle.gl_plain.specs.subjects.Draws.{Sources, check_arrays, check_indexed, drawn_places}
+use Rattle.gl_plain.specs.declared.targets.AnyImage.{AnyImage}
+use Rattle.gl_plain.specs.subjects.Targets.{target_images}
+use Rattle.gl_plain.specs.subjects.Draws.{Sources, check_arrays, check_indexed, drawn_images}
 
 -- PixelStorei makes none; any other command of fixed state makes one
 abbrev pub raster_calls : ℕ → List ℕ → List DriverCall
@@ -36,15 +37,16 @@ own_draw_calls s (DrawElements mode count kind offset) = drawing_calls (λ black
 own_draw_calls s Flush = []
 own_draw_calls s Finish = []
 
--- the images that a draw needs written whole before its driver call, if it makes one: those that it samples
-abbrev pub drawing_whole_first : Sources → Result DrawPlan GlError → List ImagePlace
+-- the images that a draw needs written whole before its driver call, if it makes one: those that it samples, and those that it draws to
+abbrev pub drawing_whole_first : Sources → Result DrawPlan GlError → List AnyImage
 drawing_whole_first s (Err e) = []
-drawing_whole_first s (Ok plan) = if plan.draw then drawn_places s else []
+drawing_whole_first s (Ok plan) = if plan.draw then drawn_images s else []
 
-abbrev pub draw_whole_first : Sources → DrawCommand → List ImagePlace
+-- the images that a command needs written whole before its driver call: a Clear those that it draws to, also where its mask does not name them
+abbrev pub draw_whole_first : Sources → DrawCommand → List AnyImage
 draw_whole_first s (ActiveTexture unit) = []
 draw_whole_first s (Raster number words) = []
-draw_whole_first s (Clear mask) = []
+draw_whole_first s (Clear mask) = if mask == 0 then [] else target_images s.drawable.target
 draw_whole_first s (DrawArrays mode first count) = drawing_whole_first s (check_arrays s mode first count)
 draw_whole_first s (DrawElements mode count kind offset) = drawing_whole_first s (check_indexed s mode count kind offset)
 draw_whole_first s Flush = []

@@ -15,7 +15,7 @@ use Rattle.gl_plain.specs.subjects.Draws.{Sources, check_arrays, check_indexed, 
 -- the refusal of a call that clears or draws, by what a draw reads
 abbrev pub draw_refusal : Sources → DrawCall → Option GlError
 draw_refusal s (calls.ActiveTexture unit) = active_texture_refusal unit
-draw_refusal s (calls.Clear mask) = clear_refusal mask
+draw_refusal s (calls.Clear mask) = clear_refusal s.drawable mask
 draw_refusal s (calls.DrawArrays mode first count) = refused_by (check_arrays s mode first count)
 draw_refusal s (calls.DrawElements mode count kind (Number offset)) = refused_by (check_indexed s mode count kind offset)
 draw_refusal s calls.Flush = None
@@ -25,7 +25,7 @@ draw_refusal s calls.Finish = None
 abbrev pub draw_command_refusal : Sources → DrawCommand → Option GlError
 draw_command_refusal s (ActiveTexture unit) = active_texture_refusal unit
 draw_command_refusal s (Raster number words) = raster_refusal number words
-draw_command_refusal s (Clear mask) = clear_refusal mask
+draw_command_refusal s (Clear mask) = clear_refusal s.drawable mask
 draw_command_refusal s (DrawArrays mode first count) = refused_by (check_arrays s mode first count)
 draw_command_refusal s (DrawElements mode count kind offset) = refused_by (check_indexed s mode count kind offset)
 draw_command_refusal s Flush = None

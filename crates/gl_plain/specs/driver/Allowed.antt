@@ -1,21 +1,21 @@
 -- The condition of every driver call.
-use Rattle.std.specs.Prelude.{◌≡◌, ◌≤◌, ◌⊎◌, ℕ, true, false, length, Option, None, Some, IsSome, IsTrue}
+use Rattle.std.specs.Prelude.{◌≡◌, ◌≤◌, ◌⊎◌, ℕ, pos, true, false, length, Option, None, Some, IsSome, IsTrue}
 use Rattle.std.specs.FinMap as map
 use Rattle.gl_base.specs.declared.limits.TheConstants.{LAST_ATTRIBUTE, LAST_UNIT, NAME_LENGTH_LIMIT}
 use Rattle.gl_plain.specs.declared.driver_calls.ObjectDriver.{ObjectDriver}
-use Rattle.gl_plain.specs.declared.driver_calls.ObjectDriver.TheVariants.{GenBuffer, BindBuffer, BufferData, BufferSubData, DeleteBuffer, GenTexture, BindTexture, DeleteTexture, VertexAttrib4, VertexAttribPointer, SetArray}
+use Rattle.gl_plain.specs.declared.driver_calls.ObjectDriver.TheVariants.{GenBuffer, BindBuffer, BufferData, BufferSubData, DeleteBuffer, GenTexture, BindTexture, DeleteTexture, GenRenderbuffer, BindRenderbuffer, DeleteRenderbuffer, GenFramebuffer, BindFramebuffer, DeleteFramebuffer, FramebufferTexture, FramebufferRenderbuffer, VertexAttrib4, VertexAttribPointer, SetArray}
 use Rattle.gl_plain.specs.declared.driver_calls.DriverCall.{DriverCall}
 use Rattle.gl_plain.specs.declared.driver_calls.DriverCall.TheVariants.{Object, Image, Program, Draw}
 use Rattle.gl_plain.specs.declared.driver_calls.DrawDriver.{DrawDriver}
 use Rattle.gl_plain.specs.declared.driver_calls.DrawDriver.TheVariants.{ActiveTexture, SetRaster, Clear, DrawArrays, DrawElements}
 use Rattle.gl_plain.specs.declared.driver_calls.ImageDriver.{ImageDriver}
-use Rattle.gl_plain.specs.declared.driver_calls.ImageDriver.TheVariants.{TexImage, TexSubImage, ZeroLevel, TexParameter}
+use Rattle.gl_plain.specs.declared.driver_calls.ImageDriver.TheVariants.{TexImage, TexSubImage, ZeroLevel, TexParameter, CopyTexImage, CopyTexSubImage, GenerateMipmap, RenderbufferStorage, ZeroRenderbuffer, ReadPixels}
 use Rattle.gl_plain.specs.declared.driver_calls.ProgramDriver.{ProgramDriver}
 use Rattle.gl_plain.specs.declared.driver_calls.ProgramDriver.TheVariants.{CreateShader, CreateProgram, DeleteShader, DeleteProgram, ShaderSource, CompileShader, AttachShader, DetachShader, BindAttribLocation, LinkProgram, ValidateProgram, UseProgram, Uniform}
 use Rattle.gl_plain.specs.declared.programs.Program as programs
 use Rattle.gl_plain.specs.subjects.Names.{IsLive}
 use Rattle.gl_plain.specs.subjects.Buffers.{IsBindBufferAllowed, IsBufferDataAllowed, IsBufferSubDataAllowed}
-use Rattle.gl_plain.specs.subjects.Textures.{TextureObjects, IsBindTextureAllowed, tex_parameter_refusal, level_at}
+use Rattle.gl_plain.specs.subjects.Textures.{IsBindTextureAllowed, tex_parameter_refusal, level_at}
 use Rattle.gl_plain.specs.subjects.Images.{image_words, IsTexImageAllowed, IsTexSubImageAllowed, IsZeroLevelAllowed}
 use Rattle.gl_plain.specs.subjects.Attributes.{vertex_attrib_pointer_refusal}
 use Rattle.gl_plain.specs.subjects.Programs.{ProgramTables, is_shader_kind, attach_refusal_by, detach_refusal_by, is_built_in, can_link, is_linked}
@@ -23,7 +23,11 @@ use Rattle.gl_plain.specs.subjects.Uniforms.{IsUniformAllowed}
 use Rattle.gl_plain.specs.subjects.Raster.{IsSetRasterAllowed}
 use Rattle.gl_plain.specs.subjects.Clears.{IsClearAllowed}
 use Rattle.gl_plain.specs.subjects.Draws.{Sources, check_arrays, check_indexed, IsDrawAllowed}
-use Rattle.gl_plain.specs.State.{DriverTables, DriverState, sources_in}
+use Rattle.gl_base.specs.declared.target_enums.TheConstants.{FRAMEBUFFER, RENDERBUFFER}
+use Rattle.gl_plain.specs.subjects.Targets.{framebuffer_texture_refusal, framebuffer_renderbuffer_refusal, renderbuffer_storage_refusal, renderbuffer_at}
+use Rattle.gl_plain.specs.subjects.Mipmaps.{IsMipmapAllowed}
+use Rattle.gl_plain.specs.subjects.Copies.{copy_tex_image_refusal, copy_tex_sub_image_refusal, copy_words, IsCopyAllowed, IsReadAllowed}
+use Rattle.gl_plain.specs.State.{DriverTables, DriverState, sources_in, drawable_in}
 
 -- a call on objects may be made with these tables: names are live, data and attributes are those that OpenGL ES takes (sections 2.7 to 2.9)
 abbrev pub IsObjectAllowed : DriverTables → ObjectDriver → Type 0
@@ -35,17 +39,32 @@ IsObjectAllowed t (DeleteBuffer name) = IsLive t.buffers.names name
 IsObjectAllowed t GenTexture = Unit {0}
 IsObjectAllowed t (BindTexture target name) = IsBindTextureAllowed t.textures target name
 IsObjectAllowed t (DeleteTexture name) = IsLive t.textures.names name
+IsObjectAllowed t GenRenderbuffer = Unit {0}
+IsObjectAllowed t (BindRenderbuffer name) = (name ≡ 0) ⊎ IsLive t.renderbuffers.names name
+IsObjectAllowed t (DeleteRenderbuffer name) = IsLive t.renderbuffers.names name
+IsObjectAllowed t GenFramebuffer = Unit {0}
+IsObjectAllowed t (BindFramebuffer name) = (name ≡ 0) ⊎ IsLive t.framebuffers.names name
+IsObjectAllowed t (DeleteFramebuffer name) = IsLive t.framebuffers.names name
+IsObjectAllowed t (FramebufferTexture attachment textarget name) = framebuffer_texture_refusal t.framebuffers t.textures FRAMEBUFFER attachment textarget name (pos 0) ≡ None
+IsObjectAllowed t (FramebufferRenderbuffer attachment name) = framebuffer_renderbuffer_refusal t.framebuffers t.renderbuffers FRAMEBUFFER attachment RENDERBUFFER name ≡ None
 IsObjectAllowed t (VertexAttrib4 index values) = index ≤ LAST_ATTRIBUTE
 IsObjectAllowed t (VertexAttribPointer index size kind normalized stride offset) = vertex_attrib_pointer_refusal index size kind stride ≡ None
 IsObjectAllowed t (SetArray index on) = index ≤ LAST_ATTRIBUTE
 
--- a call on images may be made with these textures: images and parameters are those that OpenGL ES takes, and what is zeroed is there
--- (sections 3.7.1, 3.7.2 and 3.7.4)
-abbrev pub IsImageAllowed : TextureObjects → ImageDriver → Type 0
-IsImageAllowed t (TexImage target level format kind width height payload) = IsTexImageAllowed (image_words target level format kind width height) payload
-IsImageAllowed t (TexSubImage part bytes) = IsTexSubImageAllowed t part bytes
-IsImageAllowed t (ZeroLevel place rect) = IsZeroLevelAllowed (level_at t place) rect
-IsImageAllowed t (TexParameter target pname value) = tex_parameter_refusal target pname value ≡ None
+-- a call on images may be made in this state: images, parameters, copies and storage are those that OpenGL ES takes, what is zeroed is there, and
+-- what is read was written (sections 3.7.1, 3.7.2, 3.7.4, 3.7.11, 4.3.1 and 4.4.3)
+abbrev pub IsImageAllowed : DriverState → ImageDriver → Type 0
+IsImageAllowed d (TexImage target level format kind width height payload) = IsTexImageAllowed (image_words target level format kind width height) payload
+IsImageAllowed d (TexSubImage part bytes) = IsTexSubImageAllowed d.tables.textures.objects part bytes
+IsImageAllowed d (ZeroLevel place rect) = IsZeroLevelAllowed (level_at d.tables.textures.objects place) rect
+IsImageAllowed d (TexParameter target pname value) = tex_parameter_refusal target pname value ≡ None
+IsImageAllowed d (CopyTexImage target level format x y width height) =
+    IsCopyAllowed (drawable_in d.tables) d.contents (copy_tex_image_refusal (drawable_in d.tables) (copy_words target level format x y width height))
+IsImageAllowed d (CopyTexSubImage copy) = IsCopyAllowed (drawable_in d.tables) d.contents (copy_tex_sub_image_refusal (drawable_in d.tables) copy)
+IsImageAllowed d (GenerateMipmap target) = IsMipmapAllowed d.tables.textures.objects d.tables.renderbuffers.objects d.contents target
+IsImageAllowed d (RenderbufferStorage format width height) = renderbuffer_storage_refusal d.tables.renderbuffers RENDERBUFFER format width height ≡ None
+IsImageAllowed d (ZeroRenderbuffer name) = IsSome (renderbuffer_at d.tables.renderbuffers.objects name)
+IsImageAllowed d (ReadPixels x y width height) = IsReadAllowed (drawable_in d.tables) d.contents width height
 
 -- a live program with a compiled vertex and a compiled fragment shader attached
 abbrev pub CanLink : ProgramTables → Option programs.Program → Type 0
@@ -74,13 +93,13 @@ IsProgramAllowed t (Uniform location kind count bytes) = IsUniformAllowed t.inst
 abbrev pub IsDrawingAllowed : DriverState → DrawDriver → Type 0
 IsDrawingAllowed d (ActiveTexture unit) = unit ≤ LAST_UNIT
 IsDrawingAllowed d (SetRaster number words) = IsSetRasterAllowed number words
-IsDrawingAllowed d (Clear mask) = IsClearAllowed mask d.contents.screen
+IsDrawingAllowed d (Clear mask) = IsClearAllowed (drawable_in d.tables) d.contents mask
 IsDrawingAllowed d (DrawArrays mode first count black) = IsDrawAllowed (sources_in d.tables) d.contents (check_arrays (sources_in d.tables) mode first count) black
 IsDrawingAllowed d (DrawElements mode count kind offset black) = IsDrawAllowed (sources_in d.tables) d.contents (check_indexed (sources_in d.tables) mode count kind offset) black
 
 -- the call may be made in this state
 abbrev pub IsAllowed : DriverState → DriverCall → Type 0
 IsAllowed d (Object call) = IsObjectAllowed d.tables call
-IsAllowed d (Image call) = IsImageAllowed d.tables.textures.objects call
+IsAllowed d (Image call) = IsImageAllowed d call
 IsAllowed d (Program call) = IsProgramAllowed d.tables.programs call
 IsAllowed d (Draw call) = IsDrawingAllowed d call

@@ -1,27 +1,29 @@
 -- The answers of driver calls: the form of each, what it tells, and what an oracle answers.
-use Rattle.std.specs.Prelude.{◌≡◌, ℕ, List, [], ◌∷◌, IsTrue}
+use Rattle.std.specs.Prelude.{◌≡◌, ℕ, List, [], ◌∷◌, length, IsTrue}
 use Rattle.std.specs.Ordering.{nat_cmp}
 use Rattle.std.specs.FinSet as set
 use Rattle.gl_plain.specs.declared.driver_calls.Answer.{Answer}
-use Rattle.gl_plain.specs.declared.driver_calls.Answer.TheVariants.{Done, Name, Oom, Compile, Link, Validate}
+use Rattle.gl_plain.specs.declared.driver_calls.Answer.TheVariants.{Done, Name, Oom, Compile, Link, Validate, Pixels}
 use Rattle.gl_plain.specs.declared.driver_calls.Stored.{Stored}
 use Rattle.gl_plain.specs.declared.driver_calls.Stored.TheVariants as room
 use Rattle.gl_plain.specs.declared.driver_calls.ObjectDriver.{ObjectDriver}
-use Rattle.gl_plain.specs.declared.driver_calls.ObjectDriver.TheVariants.{GenBuffer, BindBuffer, BufferData, BufferSubData, DeleteBuffer, GenTexture, BindTexture, DeleteTexture, VertexAttrib4, VertexAttribPointer, SetArray}
+use Rattle.gl_plain.specs.declared.driver_calls.ObjectDriver.TheVariants.{GenBuffer, BindBuffer, BufferData, BufferSubData, DeleteBuffer, GenTexture, BindTexture, DeleteTexture, GenRenderbuffer, BindRenderbuffer, DeleteRenderbuffer, GenFramebuffer, BindFramebuffer, DeleteFramebuffer, FramebufferTexture, FramebufferRenderbuffer, VertexAttrib4, VertexAttribPointer, SetArray}
 use Rattle.gl_plain.specs.declared.driver_calls.DriverCall.{DriverCall}
 use Rattle.gl_plain.specs.declared.driver_calls.DriverCall.TheVariants.{Object, Image, Program, Draw}
 use Rattle.gl_plain.specs.declared.driver_calls.DrawDriver.{DrawDriver}
 use Rattle.gl_plain.specs.declared.driver_calls.DrawDriver.TheVariants.{ActiveTexture, SetRaster, Clear, DrawArrays, DrawElements}
 use Rattle.gl_plain.specs.declared.driver_calls.ImageDriver.{ImageDriver}
-use Rattle.gl_plain.specs.declared.driver_calls.ImageDriver.TheVariants.{TexImage, TexSubImage, ZeroLevel, TexParameter}
+use Rattle.gl_plain.specs.declared.driver_calls.ImageDriver.TheVariants.{TexImage, TexSubImage, ZeroLevel, TexParameter, CopyTexImage, CopyTexSubImage, GenerateMipmap, RenderbufferStorage, ZeroRenderbuffer, ReadPixels}
 use Rattle.gl_plain.specs.declared.driver_calls.ProgramDriver.{ProgramDriver}
 use Rattle.gl_plain.specs.declared.driver_calls.ProgramDriver.TheVariants.{CreateShader, CreateProgram, DeleteShader, DeleteProgram, ShaderSource, CompileShader, AttachShader, DetachShader, BindAttribLocation, LinkProgram, ValidateProgram, UseProgram, Uniform}
 use Rattle.gl_plain.specs.declared.driver_calls.DriverEntry.{DriverEntry}
 use Rattle.gl_plain.specs.subjects.Names.{IsFresh}
 use Rattle.gl_plain.specs.subjects.Links.{is_log, is_sound_link}
+use Rattle.gl_plain.specs.Words.{natural}
+use Rattle.gl_plain.specs.subjects.Copies.{read_count, fitted}
 use Rattle.gl_plain.specs.State.{DriverState}
 use Rattle.gl_plain.specs.Oracle.{Oracle, first, behind, led_by}
-use Rattle.gl_plain.specs.Spaces.{Space, Buffers, Textures, numbers_in, with_numbers, given_in}
+use Rattle.gl_plain.specs.Spaces.{Space, Buffers, Textures, Renderbuffers, Framebuffers, numbers_in, with_numbers, given_in}
 
 -- the answer is a new name
 abbrev pub IsNewName : set.FinSet nat_cmp → Answer → Type 0
@@ -31,6 +33,7 @@ IsNewName given Oom = ⊥
 IsNewName given (Compile ok log) = ⊥
 IsNewName given (Link a) = ⊥
 IsNewName given (Validate ok log) = ⊥
+IsNewName given (Pixels bytes) = ⊥
 
 -- the answer says that it was done
 abbrev pub IsDone : Answer → Type 0
@@ -40,6 +43,7 @@ IsDone Oom = ⊥
 IsDone (Compile ok log) = ⊥
 IsDone (Link a) = ⊥
 IsDone (Validate ok log) = ⊥
+IsDone (Pixels bytes) = ⊥
 
 -- the answer says whether there was room
 abbrev pub IsStored : Answer → Type 0
@@ -49,6 +53,7 @@ IsStored (Name name) = ⊥
 IsStored (Compile ok log) = ⊥
 IsStored (Link a) = ⊥
 IsStored (Validate ok log) = ⊥
+IsStored (Pixels bytes) = ⊥
 
 -- the answer is what a compiler may say
 abbrev pub IsCompiled : Answer → Type 0
@@ -58,6 +63,7 @@ IsCompiled (Name name) = ⊥
 IsCompiled Oom = ⊥
 IsCompiled (Link a) = ⊥
 IsCompiled (Validate ok log) = ⊥
+IsCompiled (Pixels bytes) = ⊥
 
 -- the answer is what a linker may say
 abbrev pub IsLinked : Answer → Type 0
@@ -67,15 +73,27 @@ IsLinked (Name name) = ⊥
 IsLinked Oom = ⊥
 IsLinked (Compile ok log) = ⊥
 IsLinked (Validate ok log) = ⊥
+IsLinked (Pixels bytes) = ⊥
 
 -- the answer is what a validation may say
 abbrev pub IsValidated : Answer → Type 0
 IsValidated (Validate ok log) = IsTrue (is_log log)
+IsValidated (Pixels bytes) = ⊥
 IsValidated Done = ⊥
 IsValidated (Name name) = ⊥
 IsValidated Oom = ⊥
 IsValidated (Compile ok log) = ⊥
 IsValidated (Link a) = ⊥
+
+-- the answer is so many bytes of pixels
+abbrev pub IsPixels : ℕ → Answer → Type 0
+IsPixels count (Pixels bytes) = length bytes ≡ count
+IsPixels count Done = ⊥
+IsPixels count (Name name) = ⊥
+IsPixels count Oom = ⊥
+IsPixels count (Compile ok log) = ⊥
+IsPixels count (Link a) = ⊥
+IsPixels count (Validate ok log) = ⊥
 
 -- the form of the answer to a call on objects
 abbrev pub IsObjectAnswer : DriverState → ObjectDriver → Answer → Type 0
@@ -87,6 +105,14 @@ IsObjectAnswer d (DeleteBuffer name) answer = IsDone answer
 IsObjectAnswer d GenTexture answer = IsNewName (given_in Textures d.tables.given) answer
 IsObjectAnswer d (BindTexture target name) answer = IsDone answer
 IsObjectAnswer d (DeleteTexture name) answer = IsDone answer
+IsObjectAnswer d GenRenderbuffer answer = IsNewName (given_in Renderbuffers d.tables.given) answer
+IsObjectAnswer d (BindRenderbuffer name) answer = IsDone answer
+IsObjectAnswer d (DeleteRenderbuffer name) answer = IsDone answer
+IsObjectAnswer d GenFramebuffer answer = IsNewName (given_in Framebuffers d.tables.given) answer
+IsObjectAnswer d (BindFramebuffer name) answer = IsDone answer
+IsObjectAnswer d (DeleteFramebuffer name) answer = IsDone answer
+IsObjectAnswer d (FramebufferTexture attachment textarget name) answer = IsDone answer
+IsObjectAnswer d (FramebufferRenderbuffer attachment name) answer = IsDone answer
 IsObjectAnswer d (VertexAttrib4 index values) answer = IsDone answer
 IsObjectAnswer d (VertexAttribPointer index size kind normalized stride offset) answer = IsDone answer
 IsObjectAnswer d (SetArray index on) answer = IsDone answer
@@ -97,6 +123,12 @@ IsImageAnswer (TexImage target level format kind width height payload) answer = 
 IsImageAnswer (TexSubImage part bytes) answer = IsDone answer
 IsImageAnswer (ZeroLevel place rect) answer = IsDone answer
 IsImageAnswer (TexParameter target pname value) answer = IsDone answer
+IsImageAnswer (CopyTexImage target level format x y width height) answer = IsStored answer
+IsImageAnswer (CopyTexSubImage copy) answer = IsDone answer
+IsImageAnswer (GenerateMipmap target) answer = IsDone answer
+IsImageAnswer (RenderbufferStorage format width height) answer = IsStored answer
+IsImageAnswer (ZeroRenderbuffer name) answer = IsDone answer
+IsImageAnswer (ReadPixels x y width height) answer = IsPixels (read_count (natural width) (natural height)) answer
 
 -- the form of the answer to a call on shaders and programs
 abbrev pub IsProgramAnswer : DriverState → ProgramDriver → Answer → Type 0
@@ -137,6 +169,7 @@ told_number space Oom o = o
 told_number space (Compile ok log) o = o
 told_number space (Link a) o = o
 told_number space (Validate ok log) o = o
+told_number space (Pixels bytes) o = o
 
 -- whether there was room is the next answer of that kind
 abbrev pub told_stored : Answer → Oracle → Oracle
@@ -146,6 +179,7 @@ told_stored (Name n) o = o
 told_stored (Compile ok log) o = o
 told_stored (Link a) o = o
 told_stored (Validate ok log) o = o
+told_stored (Pixels bytes) o = o
 
 -- the name of a new shader or program is the next of their numbers
 abbrev pub told_program : Answer → Oracle → Oracle
@@ -155,6 +189,7 @@ told_program Oom o = o
 told_program (Compile ok log) o = o
 told_program (Link a) o = o
 told_program (Validate ok log) o = o
+told_program (Pixels bytes) o = o
 
 -- what a compilation says is the next of that kind
 abbrev pub told_compile : Answer → Oracle → Oracle
@@ -164,6 +199,7 @@ told_compile (Name n) o = o
 told_compile Oom o = o
 told_compile (Link a) o = o
 told_compile (Validate ok log) o = o
+told_compile (Pixels bytes) o = o
 
 -- what a link says is the next of that kind
 abbrev pub told_link : Answer → Oracle → Oracle
@@ -173,15 +209,27 @@ told_link (Name n) o = o
 told_link Oom o = o
 told_link (Compile ok log) o = o
 told_link (Validate ok log) o = o
+told_link (Pixels bytes) o = o
 
 -- what a validation says is the next of that kind
 abbrev pub told_validate : Answer → Oracle → Oracle
 told_validate (Validate ok log) o = record o { validate = led_by (record { ok = ok; log = log }) o.validate }
+told_validate (Pixels bytes) o = o
 told_validate Done o = o
 told_validate (Name n) o = o
 told_validate Oom o = o
 told_validate (Compile ok log) o = o
 told_validate (Link a) o = o
+
+-- the pixels that were read are the next
+abbrev pub told_pixels : Answer → Oracle → Oracle
+told_pixels (Pixels bytes) o = record o { pixels = led_by bytes o.pixels }
+told_pixels Done o = o
+told_pixels (Name n) o = o
+told_pixels Oom o = o
+told_pixels (Compile ok log) o = o
+told_pixels (Link a) o = o
+told_pixels (Validate ok log) o = o
 
 -- what the answer to a call on objects tells, before the other answers
 abbrev pub told_object : ObjectDriver → Answer → Oracle → Oracle
@@ -193,6 +241,14 @@ told_object (DeleteBuffer name) answer o = o
 told_object GenTexture answer o = told_number Textures answer o
 told_object (BindTexture target name) answer o = o
 told_object (DeleteTexture name) answer o = o
+told_object GenRenderbuffer answer o = told_number Renderbuffers answer o
+told_object (BindRenderbuffer name) answer o = o
+told_object (DeleteRenderbuffer name) answer o = o
+told_object GenFramebuffer answer o = told_number Framebuffers answer o
+told_object (BindFramebuffer name) answer o = o
+told_object (DeleteFramebuffer name) answer o = o
+told_object (FramebufferTexture attachment textarget name) answer o = o
+told_object (FramebufferRenderbuffer attachment name) answer o = o
 told_object (VertexAttrib4 index values) answer o = o
 told_object (VertexAttribPointer index size kind normalized stride offset) answer o = o
 told_object (SetArray index on) answer o = o
@@ -203,6 +259,12 @@ told_image (TexImage target level format kind width height payload) answer o = t
 told_image (TexSubImage part bytes) answer o = o
 told_image (ZeroLevel place rect) answer o = o
 told_image (TexParameter target pname value) answer o = o
+told_image (CopyTexImage target level format x y width height) answer o = told_stored answer o
+told_image (CopyTexSubImage copy) answer o = o
+told_image (GenerateMipmap target) answer o = o
+told_image (RenderbufferStorage format width height) answer o = told_stored answer o
+told_image (ZeroRenderbuffer name) answer o = o
+told_image (ReadPixels x y width height) answer o = told_pixels answer o
 
 -- what the answer to a call on shaders and programs tells, before the other answers
 abbrev pub told_of_program : ProgramDriver → Answer → Oracle → Oracle
@@ -255,6 +317,14 @@ object_answer o (DeleteBuffer name) = Done
 object_answer o GenTexture = Name (first (numbers_in Textures o))
 object_answer o (BindTexture target name) = Done
 object_answer o (DeleteTexture name) = Done
+object_answer o GenRenderbuffer = Name (first (numbers_in Renderbuffers o))
+object_answer o (BindRenderbuffer name) = Done
+object_answer o (DeleteRenderbuffer name) = Done
+object_answer o GenFramebuffer = Name (first (numbers_in Framebuffers o))
+object_answer o (BindFramebuffer name) = Done
+object_answer o (DeleteFramebuffer name) = Done
+object_answer o (FramebufferTexture attachment textarget name) = Done
+object_answer o (FramebufferRenderbuffer attachment name) = Done
 object_answer o (VertexAttrib4 index values) = Done
 object_answer o (VertexAttribPointer index size kind normalized stride offset) = Done
 object_answer o (SetArray index on) = Done
@@ -265,6 +335,12 @@ image_answer o (TexImage target level format kind width height payload) = stored
 image_answer o (TexSubImage part bytes) = Done
 image_answer o (ZeroLevel place rect) = Done
 image_answer o (TexParameter target pname value) = Done
+image_answer o (CopyTexImage target level format x y width height) = stored_answer (first o.stored)
+image_answer o (CopyTexSubImage copy) = Done
+image_answer o (GenerateMipmap target) = Done
+image_answer o (RenderbufferStorage format width height) = stored_answer (first o.stored)
+image_answer o (ZeroRenderbuffer name) = Done
+image_answer o (ReadPixels x y width height) = Pixels (fitted (read_count (natural width) (natural height)) (first o.pixels))
 
 -- what an oracle answers to a call on shaders and programs
 abbrev pub program_answer : Oracle → ProgramDriver → Answer
@@ -307,6 +383,14 @@ behind_object (DeleteBuffer name) o = o
 behind_object GenTexture o = with_numbers Textures (behind (numbers_in Textures o)) o
 behind_object (BindTexture target name) o = o
 behind_object (DeleteTexture name) o = o
+behind_object GenRenderbuffer o = with_numbers Renderbuffers (behind (numbers_in Renderbuffers o)) o
+behind_object (BindRenderbuffer name) o = o
+behind_object (DeleteRenderbuffer name) o = o
+behind_object GenFramebuffer o = with_numbers Framebuffers (behind (numbers_in Framebuffers o)) o
+behind_object (BindFramebuffer name) o = o
+behind_object (DeleteFramebuffer name) o = o
+behind_object (FramebufferTexture attachment textarget name) o = o
+behind_object (FramebufferRenderbuffer attachment name) o = o
 behind_object (VertexAttrib4 index values) o = o
 behind_object (VertexAttribPointer index size kind normalized stride offset) o = o
 behind_object (SetArray index on) o = o
@@ -317,6 +401,12 @@ behind_image (TexImage target level format kind width height payload) o = record
 behind_image (TexSubImage part bytes) o = o
 behind_image (ZeroLevel place rect) o = o
 behind_image (TexParameter target pname value) o = o
+behind_image (CopyTexImage target level format x y width height) o = record o { stored = behind o.stored }
+behind_image (CopyTexSubImage copy) o = o
+behind_image (GenerateMipmap target) o = o
+behind_image (RenderbufferStorage format width height) o = record o { stored = behind o.stored }
+behind_image (ZeroRenderbuffer name) o = o
+behind_image (ReadPixels x y width height) o = record o { pixels = behind o.pixels }
 
 -- the answers that are left behind a call on shaders and programs
 abbrev pub behind_program : ProgramDriver → Oracle → Oracle

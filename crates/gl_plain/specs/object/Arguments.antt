@@ -2,10 +2,10 @@
 use Rattle.std.specs.Prelude.{Bool, false, List, ℕ, Option, None, Some}
 use Rattle.gl_plain.specs.declared.commands.DataWords.{DataWords}
 use Rattle.gl_plain.specs.declared.commands.ObjectCommand.{ObjectCommand}
-use Rattle.gl_plain.specs.declared.commands.ObjectCommand.TheVariants.{GenBuffers, BindBuffer, BufferData, BufferSubData, DeleteBuffers, GenTextures, BindTexture, DeleteTextures, VertexAttrib4f, VertexAttribPointer, EnableVertexAttribArray, DisableVertexAttribArray, CreateShader, ShaderSource, CompileShader, DeleteShader, CreateProgram, AttachShader, DetachShader, BindAttribLocation, LinkProgram, ValidateProgram, UseProgram, DeleteProgram, Uniform}
+use Rattle.gl_plain.specs.declared.commands.ObjectCommand.TheVariants.{GenBuffers, BindBuffer, BufferData, BufferSubData, DeleteBuffers, GenTextures, BindTexture, DeleteTextures, GenRenderbuffers, BindRenderbuffer, DeleteRenderbuffers, GenFramebuffers, BindFramebuffer, DeleteFramebuffers, FramebufferTexture2D, FramebufferRenderbuffer, VertexAttrib4f, VertexAttribPointer, EnableVertexAttribArray, DisableVertexAttribArray, CreateShader, ShaderSource, CompileShader, DeleteShader, CreateProgram, AttachShader, DetachShader, BindAttribLocation, LinkProgram, ValidateProgram, UseProgram, DeleteProgram, Uniform}
 use Rattle.gl_plain.specs.subjects.Data.{IsData}
 use Rattle.gl_plain.specs.subjects.Buffers.{gen_buffers_is_bad, bind_buffer_is_bad, buffer_data_is_bad, buffer_sub_data_is_bad}
-use Rattle.gl_plain.specs.subjects.Textures.{gen_textures_is_bad, bind_texture_is_bad}
+use Rattle.gl_plain.specs.subjects.Names.{gen_is_bad, bind_is_bad}
 use Rattle.gl_plain.specs.subjects.Programs.{create_is_bad, shader_source_is_bad, bind_attrib_location_is_bad}
 use Rattle.gl_plain.specs.subjects.Uniforms.{uniform_is_bad}
 use Rattle.gl_plain.specs.State.{EsState}
@@ -18,9 +18,17 @@ object_is_bad s (BindBuffer target id) = bind_buffer_is_bad id
 object_is_bad s (BufferData target size usage words) = buffer_data_is_bad size words
 object_is_bad s (BufferSubData target offset size words) = buffer_sub_data_is_bad size words
 object_is_bad s (DeleteBuffers id) = false
-object_is_bad s (GenTextures id) = gen_textures_is_bad s.textures.names id
-object_is_bad s (BindTexture target id) = bind_texture_is_bad id
+object_is_bad s (GenTextures id) = gen_is_bad s.textures.names id
+object_is_bad s (BindTexture target id) = bind_is_bad id
 object_is_bad s (DeleteTextures id) = false
+object_is_bad s (GenRenderbuffers id) = gen_is_bad s.renderbuffers.names id
+object_is_bad s (BindRenderbuffer target id) = bind_is_bad id
+object_is_bad s (DeleteRenderbuffers id) = false
+object_is_bad s (GenFramebuffers id) = gen_is_bad s.framebuffers.names id
+object_is_bad s (BindFramebuffer target id) = bind_is_bad id
+object_is_bad s (DeleteFramebuffers id) = false
+object_is_bad s (FramebufferTexture2D target attachment textarget texture level) = false
+object_is_bad s (FramebufferRenderbuffer target attachment rbtarget renderbuffer) = false
 object_is_bad s (VertexAttrib4f index x y z w) = false
 object_is_bad s (VertexAttribPointer index a) = false
 object_is_bad s (EnableVertexAttribArray index) = false

@@ -4,7 +4,7 @@ use Rattle.std.specs.FinMap as map
 use Rattle.gl_base.specs.declared.gl_enum.GlEnum.{GlEnum}
 use Rattle.gl_plain.specs.declared.objects.Name.{Name}
 use Rattle.gl_plain.specs.declared.commands.ObjectCommand.{ObjectCommand}
-use Rattle.gl_plain.specs.declared.commands.ObjectCommand.TheVariants.{GenBuffers, BindBuffer, BufferData, BufferSubData, DeleteBuffers, GenTextures, BindTexture, DeleteTextures, VertexAttrib4f, VertexAttribPointer, EnableVertexAttribArray, DisableVertexAttribArray, CreateShader, ShaderSource, CompileShader, DeleteShader, CreateProgram, AttachShader, DetachShader, BindAttribLocation, LinkProgram, ValidateProgram, UseProgram, DeleteProgram, Uniform}
+use Rattle.gl_plain.specs.declared.commands.ObjectCommand.TheVariants.{GenBuffers, BindBuffer, BufferData, BufferSubData, DeleteBuffers, GenTextures, BindTexture, DeleteTextures, GenRenderbuffers, BindRenderbuffer, DeleteRenderbuffers, GenFramebuffers, BindFramebuffer, DeleteFramebuffers, FramebufferTexture2D, FramebufferRenderbuffer, VertexAttrib4f, VertexAttribPointer, EnableVertexAttribArray, DisableVertexAttribArray, CreateShader, ShaderSource, CompileShader, DeleteShader, CreateProgram, AttachShader, DetachShader, BindAttribLocation, LinkProgram, ValidateProgram, UseProgram, DeleteProgram, Uniform}
 use Rattle.gl_plain.specs.declared.driver_calls.DriverCall.{DriverCall}
 use Rattle.gl_plain.specs.declared.driver_calls.DriverCall.TheVariants.{Object, Program}
 use Rattle.gl_plain.specs.declared.driver_calls.ObjectDriver.TheVariants as calls
@@ -12,12 +12,14 @@ use Rattle.gl_plain.specs.declared.driver_calls.ProgramDriver.TheVariants as pro
 use Rattle.gl_plain.specs.declared.programs.Program as programs
 use Rattle.gl_plain.specs.subjects.Data.{payload_of, bytes_of}
 use Rattle.gl_plain.specs.subjects.Buffers.{delete_buffers_calls}
+use Rattle.gl_plain.specs.subjects.Names.{number_named}
 use Rattle.gl_plain.specs.subjects.Textures.{delete_textures_calls}
+use Rattle.gl_plain.specs.subjects.Targets.{delete_calls}
 use Rattle.gl_plain.specs.subjects.Programs.{ProgramTables, number_of, program_at, can_link}
 use Rattle.gl_plain.specs.subjects.Uniforms.{uniform_calls}
 use Rattle.gl_plain.specs.Oracle.{Oracle, first}
 use Rattle.gl_plain.specs.State.{EsState}
-use Rattle.gl_plain.specs.Spaces.{Space, Buffers, Textures, numbers_in, gen_call}
+use Rattle.gl_plain.specs.Spaces.{Space, Buffers, Textures, Renderbuffers, Framebuffers, numbers_in, gen_call}
 
 -- a bind, by what the space has of the name: that of an unused one makes the call for a new name first, unless it is 0
 abbrev pub bind_calls : Space → (ℕ → DriverCall) → ℕ → Oracle → Option Name → List DriverCall
@@ -32,6 +34,14 @@ bind_buffer_call target name = Object (calls.BindBuffer target name)
 -- the call that binds a texture
 abbrev pub bind_texture_call : GlEnum → ℕ → DriverCall
 bind_texture_call target name = Object (calls.BindTexture target name)
+
+-- the call that binds a renderbuffer
+abbrev pub bind_renderbuffer_call : ℕ → DriverCall
+bind_renderbuffer_call name = Object (calls.BindRenderbuffer name)
+
+-- the call that binds a framebuffer
+abbrev pub bind_framebuffer_call : ℕ → DriverCall
+bind_framebuffer_call name = Object (calls.BindFramebuffer name)
 
 -- a deletion of 0 makes none
 abbrev pub delete_object_calls : (ℕ → DriverCall) → ProgramTables → ℕ → List DriverCall
@@ -57,6 +67,16 @@ own_object_calls s (DeleteBuffers id) payload o = delete_buffers_calls (map.get 
 own_object_calls s (GenTextures id) payload o = gen_call Textures ∷ []
 own_object_calls s (BindTexture target id) payload o = bind_calls Textures (bind_texture_call target) id o (map.get s.textures.names id)
 own_object_calls s (DeleteTextures id) payload o = delete_textures_calls (map.get s.textures.names id)
+own_object_calls s (GenRenderbuffers id) payload o = gen_call Renderbuffers ∷ []
+own_object_calls s (BindRenderbuffer target id) payload o = bind_calls Renderbuffers bind_renderbuffer_call id o (map.get s.renderbuffers.names id)
+own_object_calls s (DeleteRenderbuffers id) payload o = delete_calls (λ n. Object (calls.DeleteRenderbuffer n)) (map.get s.renderbuffers.names id)
+own_object_calls s (GenFramebuffers id) payload o = gen_call Framebuffers ∷ []
+own_object_calls s (BindFramebuffer target id) payload o = bind_calls Framebuffers bind_framebuffer_call id o (map.get s.framebuffers.names id)
+own_object_calls s (DeleteFramebuffers id) payload o = delete_calls (λ n. Object (calls.DeleteFramebuffer n)) (map.get s.framebuffers.names id)
+own_object_calls s (FramebufferTexture2D target attachment textarget texture level) payload o =
+    Object (calls.FramebufferTexture attachment textarget (number_named (map.get s.textures.names texture))) ∷ []
+own_object_calls s (FramebufferRenderbuffer target attachment rbtarget renderbuffer) payload o =
+    Object (calls.FramebufferRenderbuffer attachment (number_named (map.get s.renderbuffers.names renderbuffer))) ∷ []
 own_object_calls s (VertexAttrib4f index x y z w) payload o = Object (calls.VertexAttrib4 index (x.0 ∷ y.0 ∷ z.0 ∷ w.0 ∷ [])) ∷ []
 own_object_calls s (VertexAttribPointer index a) payload o = Object (calls.VertexAttribPointer index a.size a.kind a.normalized a.stride a.offset) ∷ []
 own_object_calls s (EnableVertexAttribArray index) payload o = Object (calls.SetArray index true) ∷ []

@@ -1,9 +1,9 @@
 -- The commands on objects, and the calls that they spell.
 use Rattle.std.specs.Prelude.{ℕ, pos, ◌==◌, if◌then◌else◌, List, [], ◌∷◌, slice_index, Option, None, Some}
-use Rattle.gl_plain.specs.declared.numbers.TheConstants.{GEN_BUFFERS, BIND_BUFFER, BUFFER_DATA, BUFFER_SUB_DATA, DELETE_BUFFERS, GEN_TEXTURES, BIND_TEXTURE, DELETE_TEXTURES, VERTEX_ATTRIB_4F, VERTEX_ATTRIB_POINTER, ENABLE_VERTEX_ATTRIB_ARRAY, DISABLE_VERTEX_ATTRIB_ARRAY, CREATE_SHADER, SHADER_SOURCE, COMPILE_SHADER, DELETE_SHADER, CREATE_PROGRAM, ATTACH_SHADER, DETACH_SHADER, BIND_ATTRIB_LOCATION, LINK_PROGRAM, VALIDATE_PROGRAM, USE_PROGRAM, DELETE_PROGRAM, UNIFORM}
+use Rattle.gl_plain.specs.declared.numbers.TheConstants.{GEN_BUFFERS, BIND_BUFFER, BUFFER_DATA, BUFFER_SUB_DATA, DELETE_BUFFERS, GEN_TEXTURES, BIND_TEXTURE, DELETE_TEXTURES, GEN_RENDERBUFFERS, BIND_RENDERBUFFER, DELETE_RENDERBUFFERS, GEN_FRAMEBUFFERS, BIND_FRAMEBUFFER, DELETE_FRAMEBUFFERS, FRAMEBUFFER_TEXTURE_2D, FRAMEBUFFER_RENDERBUFFER, VERTEX_ATTRIB_4F, VERTEX_ATTRIB_POINTER, ENABLE_VERTEX_ATTRIB_ARRAY, DISABLE_VERTEX_ATTRIB_ARRAY, CREATE_SHADER, SHADER_SOURCE, COMPILE_SHADER, DELETE_SHADER, CREATE_PROGRAM, ATTACH_SHADER, DETACH_SHADER, BIND_ATTRIB_LOCATION, LINK_PROGRAM, VALIDATE_PROGRAM, USE_PROGRAM, DELETE_PROGRAM, UNIFORM}
 use Rattle.gl_plain.specs.declared.commands.DataWords.{DataWords}
 use Rattle.gl_plain.specs.declared.commands.ObjectCommand.{ObjectCommand}
-use Rattle.gl_plain.specs.declared.commands.ObjectCommand.TheVariants.{GenBuffers, BindBuffer, BufferData, BufferSubData, DeleteBuffers, GenTextures, BindTexture, DeleteTextures, VertexAttrib4f, VertexAttribPointer, EnableVertexAttribArray, DisableVertexAttribArray, CreateShader, ShaderSource, CompileShader, DeleteShader, CreateProgram, AttachShader, DetachShader, BindAttribLocation, LinkProgram, ValidateProgram, UseProgram, DeleteProgram, Uniform}
+use Rattle.gl_plain.specs.declared.commands.ObjectCommand.TheVariants.{GenBuffers, BindBuffer, BufferData, BufferSubData, DeleteBuffers, GenTextures, BindTexture, DeleteTextures, GenRenderbuffers, BindRenderbuffer, DeleteRenderbuffers, GenFramebuffers, BindFramebuffer, DeleteFramebuffers, FramebufferTexture2D, FramebufferRenderbuffer, VertexAttrib4f, VertexAttribPointer, EnableVertexAttribArray, DisableVertexAttribArray, CreateShader, ShaderSource, CompileShader, DeleteShader, CreateProgram, AttachShader, DetachShader, BindAttribLocation, LinkProgram, ValidateProgram, UseProgram, DeleteProgram, Uniform}
 use Rattle.gl_plain.specs.declared.calls.Payload.TheVariants.{Here}
 use Rattle.gl_plain.specs.declared.calls.Pointer.TheVariants.{Number}
 use Rattle.gl_plain.specs.declared.calls.ObjectCall.{ObjectCall}
@@ -29,6 +29,24 @@ program_command_in number words =
     else if number == UNIFORM then Some (Uniform (signed_at words 0) (slice_index words 1) (signed_at words 2) (bool_at words 3) (data_at words 4))
     else None
 
+-- the command on renderbuffers and framebuffers that a number and words spell, or none
+abbrev pub target_command_in : ℕ → List ℕ → Option ObjectCommand
+target_command_in number words =
+    if number == GEN_RENDERBUFFERS then Some (GenRenderbuffers (slice_index words 0))
+    else if number == BIND_RENDERBUFFER then Some (BindRenderbuffer (enum_at words 0) (slice_index words 1))
+    else if number == DELETE_RENDERBUFFERS then Some (DeleteRenderbuffers (slice_index words 0))
+    else if number == GEN_FRAMEBUFFERS then Some (GenFramebuffers (slice_index words 0))
+    else if number == BIND_FRAMEBUFFER then Some (BindFramebuffer (enum_at words 0) (slice_index words 1))
+    else if number == DELETE_FRAMEBUFFERS then Some (DeleteFramebuffers (slice_index words 0))
+    else if number == FRAMEBUFFER_TEXTURE_2D then Some (FramebufferTexture2D (enum_at words 0) (enum_at words 1) (enum_at words 2) (slice_index words 3) (signed_at words 4))
+    else if number == FRAMEBUFFER_RENDERBUFFER then Some (FramebufferRenderbuffer (enum_at words 0) (enum_at words 1) (enum_at words 2) (slice_index words 3))
+    else None
+
+-- the command of the first of two that there is
+abbrev pub command_or : Option ObjectCommand → Option ObjectCommand → Option ObjectCommand
+command_or (Some c) other = Some c
+command_or None other = other
+
 -- the command on objects that a number and words spell, or none
 abbrev pub object_command_in : ℕ → List ℕ → Option ObjectCommand
 object_command_in number words =
@@ -44,7 +62,7 @@ object_command_in number words =
     else if number == VERTEX_ATTRIB_POINTER then Some (VertexAttribPointer (slice_index words 0) (array_at words))
     else if number == ENABLE_VERTEX_ATTRIB_ARRAY then Some (EnableVertexAttribArray (slice_index words 0))
     else if number == DISABLE_VERTEX_ATTRIB_ARRAY then Some (DisableVertexAttribArray (slice_index words 0))
-    else program_command_in number words
+    else command_or (target_command_in number words) (program_command_in number words)
 
 -- the call that a command on objects means, with the bytes that come beside it
 abbrev pub object_call : ObjectCommand → List ℕ → ObjectCall
@@ -56,6 +74,14 @@ object_call (DeleteBuffers id) payload = calls.DeleteBuffers (id ∷ [])
 object_call (GenTextures id) payload = calls.GenTextures (pos 1)
 object_call (BindTexture target id) payload = calls.BindTexture target id
 object_call (DeleteTextures id) payload = calls.DeleteTextures (id ∷ [])
+object_call (GenRenderbuffers id) payload = calls.GenRenderbuffers (pos 1)
+object_call (BindRenderbuffer target id) payload = calls.BindRenderbuffer target id
+object_call (DeleteRenderbuffers id) payload = calls.DeleteRenderbuffers (id ∷ [])
+object_call (GenFramebuffers id) payload = calls.GenFramebuffers (pos 1)
+object_call (BindFramebuffer target id) payload = calls.BindFramebuffer target id
+object_call (DeleteFramebuffers id) payload = calls.DeleteFramebuffers (id ∷ [])
+object_call (FramebufferTexture2D target attachment textarget texture level) payload = calls.FramebufferTexture2D target attachment textarget texture level
+object_call (FramebufferRenderbuffer target attachment rbtarget renderbuffer) payload = calls.FramebufferRenderbuffer target attachment rbtarget renderbuffer
 object_call (VertexAttrib4f index x y z w) payload = calls.VertexAttrib4f index x y z w
 object_call (VertexAttribPointer index a) payload = calls.VertexAttribPointer index a.size a.kind a.normalized a.stride (Number a.offset)
 object_call (EnableVertexAttribArray index) payload = calls.EnableVertexAttribArray index
@@ -84,6 +110,14 @@ names_given (DeleteBuffers id) = []
 names_given (GenTextures id) = id ∷ []
 names_given (BindTexture target id) = []
 names_given (DeleteTextures id) = []
+names_given (GenRenderbuffers id) = id ∷ []
+names_given (BindRenderbuffer target id) = []
+names_given (DeleteRenderbuffers id) = []
+names_given (GenFramebuffers id) = id ∷ []
+names_given (BindFramebuffer target id) = []
+names_given (DeleteFramebuffers id) = []
+names_given (FramebufferTexture2D target attachment textarget texture level) = []
+names_given (FramebufferRenderbuffer target attachment rbtarget renderbuffer) = []
 names_given (VertexAttrib4f index x y z w) = []
 names_given (VertexAttribPointer index a) = []
 names_given (EnableVertexAttribArray index) = []
@@ -112,6 +146,14 @@ object_data_words (DeleteBuffers id) = None
 object_data_words (GenTextures id) = None
 object_data_words (BindTexture target id) = None
 object_data_words (DeleteTextures id) = None
+object_data_words (GenRenderbuffers id) = None
+object_data_words (BindRenderbuffer target id) = None
+object_data_words (DeleteRenderbuffers id) = None
+object_data_words (GenFramebuffers id) = None
+object_data_words (BindFramebuffer target id) = None
+object_data_words (DeleteFramebuffers id) = None
+object_data_words (FramebufferTexture2D target attachment textarget texture level) = None
+object_data_words (FramebufferRenderbuffer target attachment rbtarget renderbuffer) = None
 object_data_words (VertexAttrib4f index x y z w) = None
 object_data_words (VertexAttribPointer index a) = None
 object_data_words (EnableVertexAttribArray index) = None

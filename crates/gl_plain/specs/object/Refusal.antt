@@ -1,12 +1,14 @@
 -- The code that a call on objects is refused with: the first whose condition holds, in the order INVALID_ENUM, INVALID_VALUE, OUT_OF_MEMORY by
 -- a limit, INVALID_FRAMEBUFFER_OPERATION, INVALID_OPERATION.
-use Rattle.std.specs.Prelude.{ℕ, List, [], Option, None}
+use Rattle.std.specs.Prelude.{ℕ, pos, List, [], Option, None}
 use Rattle.gl_plain.specs.declared.errors.GlError.{GlError}
 use Rattle.gl_plain.specs.declared.calls.ObjectCall.{ObjectCall}
 use Rattle.gl_plain.specs.declared.calls.ObjectCall.TheVariants as calls
 use Rattle.gl_plain.specs.declared.commands.ObjectCommand.{ObjectCommand}
-use Rattle.gl_plain.specs.declared.commands.ObjectCommand.TheVariants.{GenBuffers, BindBuffer, BufferData, BufferSubData, DeleteBuffers, GenTextures, BindTexture, DeleteTextures, VertexAttrib4f, VertexAttribPointer, EnableVertexAttribArray, DisableVertexAttribArray, CreateShader, ShaderSource, CompileShader, DeleteShader, CreateProgram, AttachShader, DetachShader, BindAttribLocation, LinkProgram, ValidateProgram, UseProgram, DeleteProgram, Uniform}
+use Rattle.gl_plain.specs.declared.commands.ObjectCommand.TheVariants.{GenBuffers, BindBuffer, BufferData, BufferSubData, DeleteBuffers, GenTextures, BindTexture, DeleteTextures, GenRenderbuffers, BindRenderbuffer, DeleteRenderbuffers, GenFramebuffers, BindFramebuffer, DeleteFramebuffers, FramebufferTexture2D, FramebufferRenderbuffer, VertexAttrib4f, VertexAttribPointer, EnableVertexAttribArray, DisableVertexAttribArray, CreateShader, ShaderSource, CompileShader, DeleteShader, CreateProgram, AttachShader, DetachShader, BindAttribLocation, LinkProgram, ValidateProgram, UseProgram, DeleteProgram, Uniform}
 use Rattle.gl_plain.specs.subjects.Names.{gen_refusal}
+use Rattle.gl_base.specs.declared.target_enums.TheConstants.{FRAMEBUFFER, RENDERBUFFER}
+use Rattle.gl_plain.specs.subjects.Targets.{bind_refusal, framebuffer_texture_refusal, framebuffer_renderbuffer_refusal}
 use Rattle.gl_plain.specs.subjects.Buffers.{gen_buffers_refusal, bind_buffer_refusal, buffer_data_refusal, buffer_sub_data_refusal}
 use Rattle.gl_plain.specs.subjects.Attributes.{attribute_refusal, vertex_attrib_pointer_refusal}
 use Rattle.gl_plain.specs.subjects.Textures.{gen_textures_refusal, bind_texture_refusal}
@@ -25,6 +27,14 @@ object_refusal s (calls.DeleteBuffers buffers) = None
 object_refusal s (calls.GenTextures count) = gen_refusal s.textures.names count
 object_refusal s (calls.BindTexture target texture) = bind_texture_refusal s.textures target texture
 object_refusal s (calls.DeleteTextures textures) = None
+object_refusal s (calls.GenRenderbuffers count) = gen_refusal s.renderbuffers.names count
+object_refusal s (calls.BindRenderbuffer target renderbuffer) = bind_refusal RENDERBUFFER s.renderbuffers target renderbuffer
+object_refusal s (calls.DeleteRenderbuffers renderbuffers) = None
+object_refusal s (calls.GenFramebuffers count) = gen_refusal s.framebuffers.names count
+object_refusal s (calls.BindFramebuffer target framebuffer) = bind_refusal FRAMEBUFFER s.framebuffers target framebuffer
+object_refusal s (calls.DeleteFramebuffers framebuffers) = None
+object_refusal s (calls.FramebufferTexture2D target attachment textarget texture level) = framebuffer_texture_refusal s.framebuffers s.textures target attachment textarget texture level
+object_refusal s (calls.FramebufferRenderbuffer target attachment rbtarget renderbuffer) = framebuffer_renderbuffer_refusal s.framebuffers s.renderbuffers target attachment rbtarget renderbuffer
 object_refusal s (calls.VertexAttrib4f index x y z w) = attribute_refusal index
 object_refusal s (calls.VertexAttribPointer index size kind normalized stride pointer) = vertex_attrib_pointer_refusal index size kind stride
 object_refusal s (calls.EnableVertexAttribArray index) = attribute_refusal index
@@ -53,6 +63,14 @@ object_command_refusal s (DeleteBuffers id) payload = None
 object_command_refusal s (GenTextures id) payload = gen_textures_refusal s.textures
 object_command_refusal s (BindTexture target id) payload = bind_texture_refusal s.textures target id
 object_command_refusal s (DeleteTextures id) payload = None
+object_command_refusal s (GenRenderbuffers id) payload = gen_refusal s.renderbuffers.names (pos 1)
+object_command_refusal s (BindRenderbuffer target id) payload = bind_refusal RENDERBUFFER s.renderbuffers target id
+object_command_refusal s (DeleteRenderbuffers id) payload = None
+object_command_refusal s (GenFramebuffers id) payload = gen_refusal s.framebuffers.names (pos 1)
+object_command_refusal s (BindFramebuffer target id) payload = bind_refusal FRAMEBUFFER s.framebuffers target id
+object_command_refusal s (DeleteFramebuffers id) payload = None
+object_command_refusal s (FramebufferTexture2D target attachment textarget texture level) payload = framebuffer_texture_refusal s.framebuffers s.textures target attachment textarget texture level
+object_command_refusal s (FramebufferRenderbuffer target attachment rbtarget renderbuffer) payload = framebuffer_renderbuffer_refusal s.framebuffers s.renderbuffers target attachment rbtarget renderbuffer
 object_command_refusal s (VertexAttrib4f index x y z w) payload = attribute_refusal index
 object_command_refusal s (VertexAttribPointer index a) payload = vertex_attrib_pointer_refusal index a.size a.kind a.stride
 object_command_refusal s (EnableVertexAttribArray index) payload = attribute_refusal index

@@ -9,7 +9,7 @@ use Rattle.gl_plain.specs.declared.calls.ObjectCall.TheVariants as calls
 use Rattle.gl_plain.specs.declared.calls.Reply.{Reply}
 use Rattle.gl_plain.specs.declared.calls.Reply.TheVariants as reply
 use Rattle.gl_plain.specs.declared.commands.ObjectCommand.{ObjectCommand}
-use Rattle.gl_plain.specs.declared.commands.ObjectCommand.TheVariants.{GenBuffers, BindBuffer, BufferData, BufferSubData, DeleteBuffers, GenTextures, BindTexture, DeleteTextures, VertexAttrib4f, VertexAttribPointer, EnableVertexAttribArray, DisableVertexAttribArray, CreateShader, ShaderSource, CompileShader, DeleteShader, CreateProgram, AttachShader, DetachShader, BindAttribLocation, LinkProgram, ValidateProgram, UseProgram, DeleteProgram, Uniform}
+use Rattle.gl_plain.specs.declared.commands.ObjectCommand.TheVariants.{GenBuffers, BindBuffer, BufferData, BufferSubData, DeleteBuffers, GenTextures, BindTexture, DeleteTextures, GenRenderbuffers, BindRenderbuffer, DeleteRenderbuffers, GenFramebuffers, BindFramebuffer, DeleteFramebuffers, FramebufferTexture2D, FramebufferRenderbuffer, VertexAttrib4f, VertexAttribPointer, EnableVertexAttribArray, DisableVertexAttribArray, CreateShader, ShaderSource, CompileShader, DeleteShader, CreateProgram, AttachShader, DetachShader, BindAttribLocation, LinkProgram, ValidateProgram, UseProgram, DeleteProgram, Uniform}
 use Rattle.gl_plain.specs.declared.driver_calls.Stored.{Stored}
 use Rattle.gl_plain.specs.declared.driver_calls.Stored.TheVariants as room
 use Rattle.gl_plain.specs.Words.{natural}
@@ -17,13 +17,14 @@ use Rattle.gl_plain.specs.subjects.Names.{all_named}
 use Rattle.gl_plain.specs.subjects.Data.{bytes_of, data_in}
 use Rattle.gl_plain.specs.subjects.Buffers.{BufferTables, bind_buffer_effect, buffer_data_effect, buffer_sub_data_effect, without_buffer}
 use Rattle.gl_plain.specs.subjects.Attributes.{vertex_attrib_4f_effect, vertex_attrib_pointer_effect, array_of, set_array_effect, all_outside}
-use Rattle.gl_plain.specs.subjects.Textures.{TextureTables, bind_texture_effect, delete_textures_effect}
+use Rattle.gl_plain.specs.subjects.Textures.{bind_texture_effect, delete_textures_effect}
+use Rattle.gl_plain.specs.subjects.Targets.{FramebufferTables, new_renderbuffer, new_framebuffer, bind_effect, delete_effect, detach_deleted, framebuffer_texture_effect, framebuffer_renderbuffer_effect}
 use Rattle.gl_plain.specs.subjects.Programs.{ProgramTables, number_of, program_at, create_shader_effect, create_program_effect, shader_source_effect, compile_shader_effect, delete_shader_effect, delete_program_effect, attach_shader_effect, detach_shader_effect, bind_attrib_location_effect, can_link, link_program_effect, failed_link, validate_program_effect, validate_unlinked_effect, use_program_effect}
 use Rattle.gl_plain.specs.subjects.Uniforms.{uniform_effect}
 use Rattle.gl_plain.specs.declared.programs.Program.{Program}
 use Rattle.gl_plain.specs.Oracle.{Oracle, first, behind, behind_all}
 use Rattle.gl_plain.specs.State.{EsState}
-use Rattle.gl_plain.specs.Spaces.{Space, Buffers, Textures, names_in, with_names, with_name, numbers_in, with_numbers}
+use Rattle.gl_plain.specs.Spaces.{Space, Buffers, Textures, Renderbuffers, Framebuffers, names_in, with_names, with_name, numbers_in, with_numbers}
 use Rattle.gl_plain.specs.Outcome.{Outcome, leaves, with_error}
 use Rattle.gl_plain.specs.object.Commands.{object_call, names_given}
 
@@ -57,10 +58,28 @@ abbrev pub buffers_deleted : EsState → List ℕ → EsState
 buffers_deleted s [] = s
 buffers_deleted s (id ∷ ids) = buffers_deleted (buffer_deleted_by s id (map.get s.buffers.names id)) ids
 
--- the textures of these names are deleted, in order; 0 and names that are not in use are ignored
-abbrev pub textures_deleted : TextureTables → List ℕ → TextureTables
-textures_deleted t [] = t
-textures_deleted t (id ∷ ids) = textures_deleted (delete_textures_effect t id) ids
+-- a texture is deleted, and detached from the framebuffer that is bound; 0 and a name that is not in use are ignored
+abbrev pub texture_deleted : EsState → ℕ → EsState
+texture_deleted s id = record s { textures = delete_textures_effect s.textures id; framebuffers = detach_deleted s.framebuffers true (map.get s.textures.names id) }
+
+-- the textures of these names, in order
+abbrev pub textures_deleted : EsState → List ℕ → EsState
+textures_deleted s [] = s
+textures_deleted s (id ∷ ids) = textures_deleted (texture_deleted s id) ids
+
+-- a renderbuffer is deleted, and detached from the framebuffer that is bound; 0 and a name that is not in use are ignored
+abbrev pub renderbuffer_deleted : EsState → ℕ → EsState
+renderbuffer_deleted s id = record s { renderbuffers = delete_effect s.renderbuffers id; framebuffers = detach_deleted s.framebuffers false (map.get s.renderbuffers.names id) }
+
+-- the renderbuffers of these names, in order
+abbrev pub renderbuffers_deleted : EsState → List ℕ → EsState
+renderbuffers_deleted s [] = s
+renderbuffers_deleted s (id ∷ ids) = renderbuffers_deleted (renderbuffer_deleted s id) ids
+
+-- the framebuffers of these names are deleted, in order; 0 and names that are not in use are ignored
+abbrev pub framebuffers_deleted : FramebufferTables → List ℕ → FramebufferTables
+framebuffers_deleted t [] = t
+framebuffers_deleted t (id ∷ ids) = framebuffers_deleted (delete_effect t id) ids
 
 -- the state with other programs, which asks nothing
 abbrev pub with_programs : EsState → ProgramTables → EsState
@@ -109,7 +128,19 @@ object_outcome s names (calls.DeleteBuffers buffers) o = leaves (buffers_deleted
 object_outcome s names (calls.GenTextures count) o = gen_outcome Textures s names o
 object_outcome s names (calls.BindTexture target texture) o =
     bind_outcome Textures (λ t. record t { textures = bind_texture_effect t.textures target texture }) s texture o (map.get s.textures.names texture)
-object_outcome s names (calls.DeleteTextures textures) o = leaves (record s { textures = textures_deleted s.textures textures }) o
+object_outcome s names (calls.DeleteTextures textures) o = leaves (textures_deleted s textures) o
+object_outcome s names (calls.GenRenderbuffers count) o = gen_outcome Renderbuffers s names o
+object_outcome s names (calls.BindRenderbuffer target renderbuffer) o =
+    bind_outcome Renderbuffers (λ t. record t { renderbuffers = bind_effect new_renderbuffer t.renderbuffers renderbuffer }) s renderbuffer o (map.get s.renderbuffers.names renderbuffer)
+object_outcome s names (calls.DeleteRenderbuffers renderbuffers) o = leaves (renderbuffers_deleted s renderbuffers) o
+object_outcome s names (calls.GenFramebuffers count) o = gen_outcome Framebuffers s names o
+object_outcome s names (calls.BindFramebuffer target framebuffer) o =
+    bind_outcome Framebuffers (λ t. record t { framebuffers = bind_effect new_framebuffer t.framebuffers framebuffer }) s framebuffer o (map.get s.framebuffers.names framebuffer)
+object_outcome s names (calls.DeleteFramebuffers framebuffers) o = leaves (record s { framebuffers = framebuffers_deleted s.framebuffers framebuffers }) o
+object_outcome s names (calls.FramebufferTexture2D target attachment textarget texture level) o =
+    leaves (record s { framebuffers = framebuffer_texture_effect s.framebuffers s.textures attachment textarget texture texture }) o
+object_outcome s names (calls.FramebufferRenderbuffer target attachment rbtarget renderbuffer) o =
+    leaves (record s { framebuffers = framebuffer_renderbuffer_effect s.framebuffers s.renderbuffers attachment renderbuffer renderbuffer }) o
 object_outcome s names (calls.VertexAttrib4f index x y z w) o =
     leaves (record s { attribs = vertex_attrib_4f_effect s.attribs index (x.0 ∷ y.0 ∷ z.0 ∷ w.0 ∷ []) }) o
 object_outcome s names (calls.VertexAttribPointer index size kind normalized stride (Number offset)) o =
@@ -145,6 +176,14 @@ object_reply (DeleteBuffers id) r = r
 object_reply (GenTextures id) r = reply.None
 object_reply (BindTexture target id) r = r
 object_reply (DeleteTextures id) r = r
+object_reply (GenRenderbuffers id) r = reply.None
+object_reply (BindRenderbuffer target id) r = r
+object_reply (DeleteRenderbuffers id) r = r
+object_reply (GenFramebuffers id) r = reply.None
+object_reply (BindFramebuffer target id) r = r
+object_reply (DeleteFramebuffers id) r = r
+object_reply (FramebufferTexture2D target attachment textarget texture level) r = r
+object_reply (FramebufferRenderbuffer target attachment rbtarget renderbuffer) r = r
 object_reply (VertexAttrib4f index x y z w) r = r
 object_reply (VertexAttribPointer index a) r = r
 object_reply (EnableVertexAttribArray index) r = r

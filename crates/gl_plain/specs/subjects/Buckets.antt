@@ -75,3 +75,23 @@ breaks_bucket_rule buckets (Some w) = (w.source == 2) && not (has_bucket buckets
 abbrev pub data_given : Buckets → Option DataWords → List ℕ → List ℕ
 data_given buckets None payload = payload
 data_given buckets (Some w) payload = if w.source == 2 then bucket_at buckets w.a else payload
+
+-- Replies in a bucket
+
+-- the reply goes into a bucket, and there is none of this number
+abbrev pub names_no_bucket : Option ℕ → Bool
+names_no_bucket None = false
+names_no_bucket (Some bucket) = is_no_bucket bucket
+
+-- the bytes of a reply; a refused command has none
+abbrev pub reply_bytes : Reply → List ℕ
+reply_bytes reply.None = []
+reply_bytes (reply.Word n) = []
+reply_bytes (reply.Names names) = []
+reply_bytes (reply.Bytes bytes) = bytes
+reply_bytes (reply.Error code) = []
+
+-- a reply that goes into a bucket is all that the bucket has
+abbrev pub with_reply : Buckets → Option ℕ → Reply → Buckets
+with_reply buckets None r = buckets
+with_reply buckets (Some bucket) r = with_bucket buckets bucket (reply_bytes r)

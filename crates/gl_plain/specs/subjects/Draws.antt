@@ -31,15 +31,20 @@ use Rattle.gl_plain.specs.declared.textures.ImagePlace.{ImagePlace}
 use Rattle.gl_plain.specs.declared.textures.Texture.{Texture}
 use Rattle.gl_plain.specs.subjects.Completeness.{is_complete, sampled_places}
 use Rattle.gl_plain.specs.subjects.Textures.{TextureObjects, unit_at, bound_in, texture_at, level_at}
-use Rattle.gl_plain.specs.subjects.Images.{Pixel, Zero, Contents, IsScreenWritten, AreWritten}
+use Rattle.gl_plain.specs.declared.targets.AnyImage.{AnyImage}
+use Rattle.gl_plain.specs.declared.targets.AnyImage.TheVariants as image
+use Rattle.gl_plain.specs.declared.targets.Target.{Target}
+use Rattle.gl_plain.specs.subjects.Targets.{Drawable, status_in, target_images, is_texture_attached}
+use Rattle.gl_plain.specs.subjects.Images.{Contents, ImageContents, level_contents, AreWritten, IsTargetWritten}
 
--- what a draw reads: the buffers by number, the buffer of indices, the textures, the vertex attributes, and the executable that is in use
+-- what a draw reads: the buffers by number, the buffer of indices, the vertex attributes, the executable that is in use, and the textures and
+-- what is drawn to
 pub record Sources : Type 0 where
   pub buffers : table.FinMap nat_cmp Buffer
   pub element : ℕ
-  pub textures : TextureObjects
   pub attribs : VertexAttributes
   pub executable : Option Executable
+  pub drawable : Drawable
 
 -- The program
 
@@ -110,14 +115,21 @@ abbrev pub is_complete_texture : Option Texture → Bool
 is_complete_texture None = false
 is_complete_texture (Some x) = is_complete x
 
--- the units from this one on, with whether they sample a texture that is complete
-abbrev pub with_textures : TextureObjects → ℕ → List UnitView → List UnitView
-with_textures t unit [] = []
-with_textures t unit (u ∷ units) = record u { complete = is_sampled u && is_complete_texture (sampled_texture t unit u) } ∷ with_textures t (unit + 1) units
+-- a unit, with whether it samples a texture that is complete, and one of which an image is drawn to
+abbrev pub with_texture : TextureObjects → Target → ℕ → UnitView → UnitView
+with_texture t to unit u = record u {
+  complete = is_sampled u && is_complete_texture (sampled_texture t unit u);
+  attached = is_sampled u && is_texture_attached to (sampled_number t unit u);
+}
+
+-- the units from this one on
+abbrev pub with_textures : TextureObjects → Target → ℕ → List UnitView → List UnitView
+with_textures t to unit [] = []
+with_textures t to unit (u ∷ units) = with_texture t to unit u ∷ with_textures t to (unit + 1) units
 
 -- all units, as the samplers name them and the textures are
 abbrev pub units_viewed : Sources → List UnitView
-units_viewed s = with_textures s.textures 0 (all_units s.executable)
+units_viewed s = with_textures s.drawable.textures s.drawable.target 0 (all_units s.executable)
 
 -- Arrays
 
@@ -200,7 +212,7 @@ abbrev pub indices_viewed : Sources → ℕ → Option IndexWords → Option Ind
 indices_viewed s count None = None
 indices_viewed s count (Some i) = Some (index_view s count i)
 
--- all that the rules look at; framebuffer 0, which alone is there yet, is complete (section 4.4.5)
+-- all that the rules look at
 abbrev pub draw_view : Sources → GlEnum → Option IndexWords → ℕ → DrawView
 draw_view s mode i count = record {
   mode = mode;
@@ -208,7 +220,7 @@ draw_view s mode i count = record {
   arrays = map (array_view s.buffers) s.attribs.attributes;
   used = used_bits (attributes_in s.executable);
   units = units_viewed s;
-  status = FRAMEBUFFER_COMPLETE;
+  status = status_in s.drawable;
   program = is_some s.executable;
 }
 
@@ -328,19 +340,11 @@ places_from t unit (u ∷ units) = unit_places t unit u ++ places_from t (unit +
 
 -- those of all units
 abbrev pub drawn_places : Sources → List ImagePlace
-drawn_places s = places_from s.textures 0 (units_viewed s)
+drawn_places s = places_from s.drawable.textures 0 (units_viewed s)
 
--- an image in place of its name: what it is, and its pixels, which are zero outside
-pub record ImageContents : Type 0 where
-  pub view : Option LevelView
-  pub pixel : ℕ → ℕ → Pixel
-
-abbrev pub pixels_in : Option LevelView → (ℕ → ℕ → Pixel) → ℕ → ℕ → Pixel
-pixels_in None px x y = Zero
-pixels_in (Some v) px x y = if nat_lt x v.width && nat_lt y v.height then px x y else Zero
-
-abbrev pub image_at : TextureObjects → Contents → ImagePlace → ImageContents
-image_at t k place = record { view = level_at t place; pixel = pixels_in (level_at t place) (k.images place) }
+-- the images that a draw needs written: those that are sampled, and those that are drawn to
+abbrev pub drawn_images : Sources → List AnyImage
+drawn_images s = map image.Level (drawn_places s) ++ target_images s.drawable.target
 
 -- what a unit samples: black, where its texture is not complete; else how it is filtered and wraps, and its images
 pub data Sample : Type 0 where
@@ -349,7 +353,7 @@ pub data Sample : Type 0 where
 
 abbrev pub sample_by : TextureObjects → Contents → ℕ → Option Texture → Sample
 sample_by t k number None = Black
-sample_by t k number (Some x) = Sampled x.min x.mag x.wrap_s x.wrap_t (map (image_at t k) (sampled_places number x))
+sample_by t k number (Some x) = Sampled x.min x.mag x.wrap_s x.wrap_t (map (level_contents t k) (sampled_places number x))
 
 abbrev pub sample_of : TextureObjects → Contents → ℕ → UnitView → Sample
 sample_of t k unit u = if u.complete then sample_by t k (sampled_number t unit u) (sampled_texture t unit u) else Black
@@ -361,7 +365,7 @@ samples_from t k unit (u ∷ units) =
     (if is_sampled u then sample_of t k unit u ∷ [] else []) ++ samples_from t k (unit + 1) units
 
 abbrev pub samples_of : Sources → Contents → List Sample
-samples_of s k = samples_from s.textures k 0 (units_viewed s)
+samples_of s k = samples_from s.drawable.textures k 0 (units_viewed s)
 
 -- The driver calls
 
@@ -369,5 +373,5 @@ samples_of s k = samples_from s.textures k 0 (units_viewed s)
 -- to were written
 pub record IsDrawAllowed (s : Sources) (k : Contents) (check : Result DrawPlan GlError) (black : ℕ) : Type 0 where
   pub draws : check ≡ Ok (record { draw = true; black = black })
-  pub sampled : AreWritten s.textures k (drawn_places s)
-  pub written : IsScreenWritten k.screen
+  pub sampled : AreWritten s.drawable.textures s.drawable.renderbuffers k (map image.Level (drawn_places s))
+  pub written : IsTargetWritten s.drawable k s.drawable.target

@@ -1,5 +1,5 @@
--- Images of textures: the rules of the calls that give them (OpenGL ES 2.0.25, sections 3.7.1 and 3.7.2), their pixels, and the written
--- rectangles that the service keeps of them.
+-- Images: the rules of the calls that give those of textures (OpenGL ES 2.0.25, sections 3.7.1 and 3.7.2), the pixels of all, and what the
+-- service keeps of what was written.
 use Rattle.std.specs.Prelude.{◌≡◌, ◌<◌, ◌+◌, ◌-◌, ◌*◌, ◌/◌, ◌^◌, ◌==◌, ℕ, ℤ, pos, Bool, true, false, not, ◌&&◌, ◌||◌, nat_lt, nat_le, if◌then◌else◌, List, [], ◌∷◌, ◌++◌, length, take, drop, Option, None, Some, is_none}
 use Rattle.gl_base.specs.declared.rect.Rect.{Rect}
 use Rattle.gl_base.specs.declared.gl_enum.GlEnum.{GlEnum}
@@ -23,6 +23,11 @@ use Rattle.gl_plain.specs.subjects.Data.{has_no_data, has_needed_data, has_just_
 use Rattle.gl_plain.specs.subjects.Levels.{is_image_target, is_cube_face, with_level}
 use Rattle.gl_plain.specs.subjects.Completeness.{is_power_of_two}
 use Rattle.gl_plain.specs.subjects.Textures.{TextureObjects, bound_number, bound_texture, with_texture, place_bound, level_at}
+use Rattle.gl_plain.specs.declared.targets.AnyImage.{AnyImage}
+use Rattle.gl_plain.specs.declared.targets.AnyImage.TheVariants as image
+use Rattle.gl_plain.specs.declared.targets.Target.{Target}
+use Rattle.gl_plain.specs.declared.targets.Target.TheVariants as target
+use Rattle.gl_plain.specs.subjects.Targets.{Renderbuffers, Drawable, view_of_image, image_list, target_images, surface_view}
 
 -- Pixels
 
@@ -43,15 +48,16 @@ pub data Pixel : Type 0 where
 abbrev pub Screen : Type 0
 Screen = ScreenImage → ℕ → ℕ → Pixel
 
--- the pixels of all images, by column and row, and how many records were made
+-- the pixels of all images, by column and row: of textures, and of renderbuffers by number; and how many records were made
 pub record Contents : Type 0 where
   pub images : ImagePlace → ℕ → ℕ → Pixel
+  pub renderbuffers : ℕ → ℕ → ℕ → Pixel
   pub screen : Screen
   pub records : ℕ
 
 -- at the opening the default framebuffer is zero, and nothing is written in any other image
 abbrev pub opening_contents : Contents
-opening_contents = record { images = λ i x y. Undefined; screen = λ i x y. Zero; records = 0 }
+opening_contents = record { images = λ i x y. Undefined; renderbuffers = λ n x y. Undefined; screen = λ i x y. Zero; records = 0 }
 
 -- the pixel was written
 abbrev pub is_defined : Pixel → Bool
@@ -73,7 +79,7 @@ read_pixel (Made k) = Made k
 
 -- the contents as OpenGL ES has them
 abbrev pub read_contents : Contents → Contents
-read_contents k = record { images = λ i x y. read_pixel (k.images i x y); screen = λ i x y. read_pixel (k.screen i x y); records = k.records }
+read_contents k = record { images = λ i x y. read_pixel (k.images i x y); renderbuffers = λ n x y. read_pixel (k.renderbuffers n x y); screen = λ i x y. read_pixel (k.screen i x y); records = k.records }
 
 -- the places are the same
 abbrev pub is_place : ImagePlace → ImagePlace → Bool
@@ -86,6 +92,29 @@ with_pixels k place r new = record k { images = λ i x y. if is_place place i &&
 -- an image is a new one
 abbrev pub with_image : Contents → ImagePlace → (ℕ → ℕ → Pixel) → Contents
 with_image k place new = record k { images = λ i x y. if is_place place i then new x y else k.images i x y }
+
+-- the image of a renderbuffer is a new one
+abbrev pub with_storage : Contents → ℕ → (ℕ → ℕ → Pixel) → Contents
+with_storage k number new = record k { renderbuffers = λ n x y. if number == n then new x y else k.renderbuffers n x y }
+
+-- the pixels of an image
+abbrev pub pixels_of_image : Contents → AnyImage → ℕ → ℕ → Pixel
+pixels_of_image k (image.Level place) = k.images place
+pixels_of_image k (image.Renderbuffer number) = k.renderbuffers number
+
+-- an image has these pixels
+abbrev pub with_image_of : Contents → AnyImage → (ℕ → ℕ → Pixel) → Contents
+with_image_of k (image.Level place) new = with_image k place new
+with_image_of k (image.Renderbuffer number) new = with_storage k number new
+
+-- all places of these images were made by the record of this number
+abbrev pub all_made : ℕ → Contents → List AnyImage → Contents
+all_made record_number k [] = k
+all_made record_number k (x ∷ xs) = all_made record_number (with_image_of k x (λ column row. Made record_number)) xs
+
+-- one more record was made
+abbrev pub counted : Contents → Contents
+counted k = record k { records = k.records + 1 }
 
 -- the pixels of a rectangle whose rows follow one another, each pixel of so many bytes
 abbrev pub pixels_of : List ℕ → ℕ → Rect → ℕ → ℕ → Pixel
@@ -291,6 +320,75 @@ IsWritten None px = Unit {0}
 IsWritten (Some v) px = (x y : ℕ) → x < v.width → y < v.height → is_defined (px x y) ≡ true
 
 -- nor of these images
-abbrev pub AreWritten : TextureObjects → Contents → List ImagePlace → Type 0
-AreWritten t k [] = Unit {0}
-AreWritten t k (place ∷ places) = IsWritten (level_at t place) (k.images place) × AreWritten t k places
+abbrev pub AreWritten : TextureObjects → Renderbuffers → Contents → List AnyImage → Type 0
+AreWritten t r k [] = Unit {0}
+AreWritten t r k (x ∷ xs) = IsWritten (view_of_image t r x) (pixels_of_image k x) × AreWritten t r k xs
+
+-- nor of what is drawn to
+abbrev pub IsTargetWritten : Drawable → Contents → Target → Type 0
+IsTargetWritten b k target.Default = IsScreenWritten k.screen
+IsTargetWritten b k (target.Bound colour depth stencil) = AreWritten b.textures b.renderbuffers k (target_images (target.Bound colour depth stencil))
+
+-- nor of what colours are read from
+abbrev pub IsColourWritten : Drawable → Contents → Target → Type 0
+IsColourWritten b k target.Default = IsScreenWritten k.screen
+IsColourWritten b k (target.Bound colour depth stencil) = AreWritten b.textures b.renderbuffers k (image_list colour)
+
+-- The renderbuffers that were written
+
+-- a renderbuffer is written as a whole, or not at all
+abbrev pub Marks : Type 0
+Marks = ℕ → Bool
+
+abbrev pub no_marks : Marks
+no_marks n = false
+
+-- a renderbuffer is written, or is not
+abbrev pub with_mark : Marks → ℕ → Bool → Marks
+with_mark m number is_written n = if number == n then is_written else m n
+
+-- the mark says whether the image was written: RenderbufferStorage leaves every pixel undefined, and what writes one writes all; where no image
+-- is, none is written
+abbrev pub IsMarked : Option LevelView → Bool → (ℕ → ℕ → Pixel) → Type 0
+IsMarked None mark px = mark ≡ false
+IsMarked (Some v) mark px = (x y : ℕ) → is_defined (px x y) ≡ mark
+
+-- An image in place of its name
+
+-- what it is, and its pixels, which are zero outside
+pub record ImageContents : Type 0 where
+  pub view : Option LevelView
+  pub pixel : ℕ → ℕ → Pixel
+
+abbrev pub pixels_in : Option LevelView → (ℕ → ℕ → Pixel) → ℕ → ℕ → Pixel
+pixels_in None px x y = Zero
+pixels_in (Some v) px x y = if nat_lt x v.width && nat_lt y v.height then px x y else Zero
+
+abbrev pub viewed : Option LevelView → (ℕ → ℕ → Pixel) → ImageContents
+viewed v px = record { view = v; pixel = pixels_in v px }
+
+-- that of a level of a texture
+abbrev pub level_contents : TextureObjects → Contents → ImagePlace → ImageContents
+level_contents t k place = viewed (level_at t place) (k.images place)
+
+-- that of any image
+abbrev pub image_at : TextureObjects → Renderbuffers → Contents → AnyImage → ImageContents
+image_at t r k x = viewed (view_of_image t r x) (pixels_of_image k x)
+
+abbrev pub attached_at : Drawable → Contents → Option AnyImage → Option ImageContents
+attached_at b k None = None
+attached_at b k (Some x) = Some (image_at b.textures b.renderbuffers k x)
+
+-- what is drawn to: the default framebuffer, or the images that are attached
+pub data TargetContents : Type 0 where
+  DefaultContents : (screen : Screen) → TargetContents
+  AttachedContents : (colour depth stencil : Option ImageContents) → TargetContents
+
+abbrev pub target_contents : Drawable → Contents → Target → TargetContents
+target_contents b k target.Default = DefaultContents k.screen
+target_contents b k (target.Bound colour depth stencil) = AttachedContents (attached_at b k colour) (attached_at b k depth) (attached_at b k stencil)
+
+-- what colours are read from, if anything
+abbrev pub colour_contents : Drawable → Contents → Target → Option ImageContents
+colour_contents b k target.Default = Some (viewed (Some (surface_view b.surface)) (k.screen Colour))
+colour_contents b k (target.Bound colour depth stencil) = attached_at b k colour

@@ -4,7 +4,7 @@ use Prim.Native.Nat.{zero, suc}
 use Rattle.std.specs.Ordering.{nat_cmp}
 use Rattle.std.specs.FinMap as map
 use Rattle.std.specs.FinSet as set
-use Rattle.gl_base.specs.Names.{is_reserved, is_over_limit}
+use Rattle.gl_base.specs.Names.{is_ordinary, is_reserved, is_over_limit}
 use Rattle.gl_plain.specs.declared.objects.Name.{Name}
 use Rattle.gl_plain.specs.declared.errors.GlError.{GlError}
 use Rattle.gl_plain.specs.declared.errors.GlError.TheVariants.{InvalidValue, OutOfMemory}
@@ -31,6 +31,11 @@ all_named names (id ∷ ids) numbers = all_named (named names id (numbers 0)) id
 abbrev pub made_object : Names → ℕ → Name → Names
 made_object names id x = map.insert names id (record { number = x.number; is_object = true })
 
+-- the number of what the table has of a name, or 0
+abbrev pub number_named : Option Name → ℕ
+number_named None = 0
+number_named (Some x) = x.number
+
 -- nothing is bound where this number was
 abbrev pub unbound : ℕ → ℕ → ℕ
 unbound number bound = if bound == number then 0 else bound
@@ -43,6 +48,14 @@ IsLive names name = IsSome (map.get names name)
 pub record IsFresh (given : set.FinSet nat_cmp) (name : ℕ) : Type 0 where
   pub positive : name ≢ 0
   pub unused : set.contains given name ≡ false
+
+-- a Gen brings an id into use that is ordinary and not in use
+abbrev pub gen_is_bad : Names → ℕ → Bool
+gen_is_bad names id = not (is_ordinary id) || is_some (map.get names id)
+
+-- a Bind is of 0 or an ordinary id
+abbrev pub bind_is_bad : ℕ → Bool
+bind_is_bad id = not ((id == 0) || is_ordinary id)
 
 -- GenX is refused for a negative count, and where there would be too many names
 abbrev pub gen_refusal : Names → ℤ → Option GlError

@@ -198,8 +198,9 @@ is_wrong_value ViewportSide word = is_below_zero word
 is_wrong_value Reference word = false
 
 -- rows in client memory begin at multiples of 1, 2, 4 or 8 (section 3.6.1)
-abbrev pub IsAligned : Alignments → Type 0
-IsAligned a = is_wrong_value Alignment a.unpack ≡ false
+pub record IsAligned (a : Alignments) : Type 0 where
+  pub unpack : is_wrong_value Alignment a.unpack ≡ false
+  pub pack : is_wrong_value Alignment a.pack ≡ false
 
 -- a rule is broken by the word at its place; a word behind the last one is 0
 abbrev pub any_word : (WordRule → ℕ → Bool) → List WordRule → List ℕ → Bool

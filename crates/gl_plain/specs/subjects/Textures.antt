@@ -99,10 +99,6 @@ level_at t place = level_in (texture_at t place.texture (is_cube_face place.face
 
 -- GenTextures
 
--- the id is ordinary, and not in use
-abbrev pub gen_textures_is_bad : Names → ℕ → Bool
-gen_textures_is_bad names id = not (is_ordinary id) || is_some (table.get names id)
-
 abbrev pub gen_textures_refusal : TextureTables → Option GlError
 gen_textures_refusal t = gen_refusal t.names (pos 1)
 
@@ -111,10 +107,6 @@ abbrev pub gen_textures_effect : TextureTables → ℕ → ℕ → TextureTables
 gen_textures_effect t id number = record t { names = named t.names id number }
 
 -- BindTexture
-
--- the id is 0 or ordinary
-abbrev pub bind_texture_is_bad : ℕ → Bool
-bind_texture_is_bad id = not ((id == 0) || is_ordinary id)
 
 -- two kinds of textures differ
 abbrev pub is_other : Bool → Bool → Bool
