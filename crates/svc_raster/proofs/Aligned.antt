@@ -1,7 +1,7 @@
 -- A command that is not refused keeps an alignment.
-use Rattle.std.proofs.Common.{◌≡◌, ◌≤◌, ◌∙◌, ℕ, ◌==◌, Bool, true, false, not, if◌then◌else◌, arith, ap, sym, subst, refl, inl, inr, List, [], ◌∷◌, length, Option, None, Some, slice_index}
+use Rattle.std.proofs.Common.{◌≡◌, ◌≤◌, ◌∙◌, ℕ, ◌==◌, Bool, true, false, not, if◌then◌else◌, arith, ap, sym, subst, refl, inl, inr, List, [], ◌∷◌, length, None, Some, slice_index}
 use Rattle.std.proofs.lemmas.Bool.Decides.{eqb_tells}
-use Rattle.gl_plain.specs.declared.errors.GlError.{GlError}
+use Rattle.gl_base.specs.declared.raster_enums.TheConstants as enums
 use Rattle.gl_plain.specs.declared.errors.GlError.TheVariants.{InvalidEnum, InvalidValue}
 use Rattle.gl_plain.specs.declared.numbers.TheConstants.{PIXEL_STOREI}
 use Rattle.gl_plain.specs.declared.raster.Alignments.{Alignments}
@@ -25,9 +25,15 @@ no_wrong_value true wrong_value h = absurd (cc)
 no_wrong_value false true h = absurd (cc)
 no_wrong_value false false h = refl
 
+-- the alignment that the first word names
+stored : (is_unpack : Bool) (word : ℕ) (a : Alignments) → IsAligned a → (1 ≤ word) × (word ≤ 8) → IsAligned (if is_unpack then record a { unpack = word } else record a { pack = word })
+stored true word a aligned w = (w.0, w.1, aligned.2, aligned.3)
+stored false word a aligned w = (aligned.0, aligned.1, w.0, w.1)
+
 of_pixel_store : (words : List ℕ) (a : Alignments) → IsAligned a → raster_refusal PIXEL_STOREI words ≡ None → IsAligned (alignment_effect a PIXEL_STOREI (kept_words PIXEL_STOREI words))
 of_pixel_store words a aligned taken =
-    let w = aligned_word words (no_wrong_value (any_word is_wrong_enum rules words) (any_word is_wrong_value rules words) taken) in grind arith
+    let w = aligned_word words (no_wrong_value (any_word is_wrong_enum rules words) (any_word is_wrong_value rules words) taken) in
+    stored (slice_index (kept_words PIXEL_STOREI words) 0 == enums.UNPACK_ALIGNMENT.0) (slice_index (kept_words PIXEL_STOREI words) 1) a aligned w
 
 -- the alignments after it are aligned again
 pub stays_aligned : (number : ℕ) (words : List ℕ) (a : Alignments) → IsAligned a → raster_refusal number words ≡ None → IsAligned (alignment_effect a number (kept_words number words))

@@ -68,6 +68,14 @@ impl Raster {
         self.alignments.unpack
     }
 
+    /// The alignment of rows that are written to client memory, in bytes (section 4.3.1).
+    pub fn pack_alignment(&self) -> u32
+        ensures value { result ≡ self.now.alignments.pack }
+        ensures limits { (1 ≤ result) × (result ≤ 8) }
+    {
+        self.alignments.pack
+    }
+
     /// The words of a state of this name, or None where it is none of the fixed state (section 6.1.1).
     pub fn get(&self, pname: u32) -> Option<ArrayVec<u32, 4>>
         ensures { option_map (λ words. words.items) result ≡ plain.raster_state self.now.words self.now.alignments pname }

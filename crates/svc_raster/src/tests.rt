@@ -38,6 +38,12 @@ fn a_command_sets_the_words_that_are_asked_for(rt: HostRuntime) {
     assert_eq!(rt; kept.as_slice(), [unpack, 8].as_slice());
     assert_eq!(rt; raster.set(PIXEL_STOREI, &[unpack, 8]), Ok(()));
     assert!(rt; has(&raster, unpack, &[8]));
+    let pack = enums::PACK_ALIGNMENT.0;
+    assert_eq!(rt; raster.set(PIXEL_STOREI, &[pack, 2]), Ok(()));
+    assert_eq!(rt;
+        (raster.unpack_alignment(), raster.pack_alignment()),
+        (8, 2)
+    );
     let colour = kept_words(
         BLEND_COLOR,
         &[0x3F00_0000, 0xBF80_0000, 0x4000_0000, 0x7FC0_0000],

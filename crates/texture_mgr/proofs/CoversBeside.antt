@@ -28,16 +28,16 @@ all_three true false r e = absurd (cc)
 all_three false q r e = absurd (cc)
 
 -- whether a number is 0
-zero_or : (n : ℕ) → (n ≡ 0) ⊎ (n ≢ 0)
+pub zero_or : (n : ℕ) → (n ≡ 0) ⊎ (n ≢ 0)
 zero_or n = elim (n == 0) as (λ b. (n == 0) ≡ b → (n ≡ 0) ⊎ (n ≢ 0)) [
   | true ↦ λ e. inl (grind (arith, nat_tests))
   | false ↦ λ e. inr (λ is. grind (arith, nat_tests))
 ] refl
 
-numbered : (o : Objects) (number : ℕ) (cube : Bool) → number ≢ 0 → texture_in o number cube ≡ map.get o.by_number number
+pub numbered : (o : Objects) (number : ℕ) (cube : Bool) → number ≢ 0 → texture_in o number cube ≡ map.get o.by_number number
 numbered o number cube positive = ap (λ b. if b then Some (default_in o cube) else map.get o.by_number number) (ne_eqb number 0 positive)
 
-numbered_now : (o : Objects) (number : ℕ) (cube : Bool) (x : Texture) → number ≢ 0 → with_texture o number cube x ≡ record o { by_number = map.insert o.by_number number x }
+pub numbered_now : (o : Objects) (number : ℕ) (cube : Bool) (x : Texture) → number ≢ 0 → with_texture o number cube x ≡ record o { by_number = map.insert o.by_number number x }
 numbered_now o number cube x positive = ap {B = Objects} (λ b. if b then with_default o cube x else record o { by_number = map.insert o.by_number number x }) (ne_eqb number 0 positive)
 
 default_kept : (o : Objects) (cube : Bool) (x : Texture) (m : ℕ) → map.get (with_default o cube x).by_number m ≡ map.get o.by_number m
@@ -45,7 +45,7 @@ default_kept o true x m = refl
 default_kept o false x m = refl
 
 -- what is found after a texture was replaced: the new one in place of the old, or what was there at another number or of another kind
-abbrev Found : Objects → ℕ → Bool → Texture → Texture → ℕ → Bool → Type 0
+abbrev pub Found : Objects → ℕ → Bool → Texture → Texture → ℕ → Bool → Type 0
 Found o number cube x now m kind =
     ((m ≡ number) × (texture_in (with_texture o number cube now) m kind ≡ Some now) × (texture_in o m kind ≡ Some x))
     ⊎ ((texture_in (with_texture o number cube now) m kind ≡ texture_in o m kind) × (m ≡ number → kind ≡ cube → ⊥))
@@ -85,16 +85,16 @@ found_number o number cube x now positive there m kind =
       same_defaults o m2 m true = refl
       same_defaults o m2 m false = refl
 
-found : (o : Objects) (number : ℕ) (cube : Bool) (x now : Texture) → texture_in o number cube ≡ Some x → (m : ℕ) (kind : Bool) → Found o number cube x now m kind
+pub found : (o : Objects) (number : ℕ) (cube : Bool) (x now : Texture) → texture_in o number cube ≡ Some x → (m : ℕ) (kind : Bool) → Found o number cube x now m kind
 found o number cube x now there m kind = elim (zero_or number) [
   | inl e ↦ subst (λ k. Found o k cube x now m kind) (sym e) (found_zero o cube x now (subst (λ k. texture_in o k cube ≡ Some x) e there) m kind)
   | inr positive ↦ found_number o number cube x now positive there m kind
 ]
 
-same_test : (m n : ℕ) (a b : Bool) → m ≡ n → ((m == n) && a && b) ≡ (a && b)
+pub same_test : (m n : ℕ) (a b : Bool) → m ≡ n → ((m == n) && a && b) ≡ (a && b)
 same_test m n a b e = ap (λ t. t && a && b) (let t : (m == n) ≡ true = grind (arith, nat_tests) in t)
 
-other_test : (m n a b : ℕ) (c : Bool) → (m ≡ n → a ≡ b → ⊥) → ((m == n) && (a == b) && c) ≡ false
+pub other_test : (m n a b : ℕ) (c : Bool) → (m ≡ n → a ≡ b → ⊥) → ((m == n) && (a == b) && c) ≡ false
 other_test m n a b c apart = elim (m == n) as (λ s. (m == n) ≡ s → (s && (a == b) && c) ≡ false) [
   | false ↦ λ e. refl
   | true ↦ λ e. ap (λ t. t && c) (ne_eqb a b (λ is. apart (grind (arith, nat_tests)) is))
@@ -198,18 +198,19 @@ module _ (o : Objects) (number : ℕ) (kind : Bool) (place : ImagePlace) (n : nu
         → covers_of (with_texture o number kind now) ≡ filled_by (covers_of o) place (level_at (objects_of o u) place)
     filled_there u now is = put_at now ∙ covers_filled o place x now (at_place ∙ there) _ is ∙ ap (filled_by (covers_of o) place) (sym (level_there u))
 
+-- two places are one
+pub one_place : (a b : ImagePlace) → is_place a b ≡ true → a ≡ b
+one_place a b e = let p = all_three (b.texture == a.texture) (b.face.0 == a.face.0) (b.level == a.level) e in
+    let t : a.texture ≡ b.texture = grind (arith, nat_tests, p.0) in
+    let g : a.face.0 ≡ b.face.0 = grind (arith, nat_tests, p.1) in
+    let l : a.level ≡ b.level = grind (arith, nat_tests, p.2) in
+    λ i. record { texture = t i; face = record { 0 = g i }; level = l i }
+
 -- a rectangle that is as it was
 pub cover_again : (f : Covers) (place : ImagePlace) → with_cover f place (f place) ≡ f
 cover_again f place k other = at k where
-  same_place : (a b : ImagePlace) → is_place a b ≡ true → a ≡ b
-  same_place a b e = let p = all_three (b.texture == a.texture) (b.face.0 == a.face.0) (b.level == a.level) e in
-      let t : a.texture ≡ b.texture = grind (arith, nat_tests, p.0) in
-      let g : a.face.0 ≡ b.face.0 = grind (arith, nat_tests, p.1) in
-      let l : a.level ≡ b.level = grind (arith, nat_tests, p.2) in
-      λ i. record { texture = t i; face = record { 0 = g i }; level = l i }
-
   at : with_cover f place (f place) other ≡ f other
-  at = elim (is_place place other) as (λ b. is_place place other ≡ b → (if b then f place else f other) ≡ f other) [ true ↦ λ e. ap f (same_place place other e) | false ↦ λ e. refl ] refl
+  at = elim (is_place place other) as (λ b. is_place place other ≡ b → (if b then f place else f other) ≡ f other) [ true ↦ λ e. ap f (one_place place other e) | false ↦ λ e. refl ] refl
 
 pub not_extended : (old r : Rect) → is_some (union_of old r) ≡ false → extended old r ≡ old
 not_extended old r none = by (union_of old r) none where

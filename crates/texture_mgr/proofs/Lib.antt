@@ -5,3 +5,7 @@ pub mod TablesBeside
 pub mod CoversBeside
 pub mod Numbers
 pub mod LevelsBehind
+pub mod HalfSteps
+pub mod Filled
+pub mod HalvesMade
+pub mod HalvesBeside

@@ -6,3 +6,5 @@ pub mod Objects
 pub mod Lent
 pub mod Numbered
 pub mod Tables
+pub mod Halves
+pub mod OfTargets

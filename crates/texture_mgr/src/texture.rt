@@ -20,7 +20,7 @@ use std::alloc::{AllocError, Global};
 /// A texture object: its parameters and its images as tables have them, and what was written of each image that is there.
 #[derive(Debug, Drop)]
 pub struct Texture {
-    table: gl_plain::Texture,
+    pub(crate) table: gl_plain::Texture,
     covers: Seq<Option<Cover>>,
     pub ghost kept: { HasCovers table.cube table.levels covers },
 }

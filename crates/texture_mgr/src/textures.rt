@@ -10,6 +10,7 @@ ghost use Rattle.gl_plain.specs.object.Covers.{bound_covers, deleted_covers};
 ghost use Rattle.gl_plain.specs.Oracle.{Oracle};
 ghost use Rattle.svc_names.specs.Answers.{IsAnswer};
 ghost use Rattle.texture_mgr.specs.Numbered.{AreNumbered};
+ghost use Rattle.texture_mgr.specs.OfTargets.{AreOfTargets};
 
 use crate::objects::Objects;
 use crate::texture::Texture;
@@ -26,6 +27,7 @@ pub struct Textures {
     pub(crate) objects: Objects,
     pub(crate) units: TextureUnits,
     pub ghost numbered: { AreNumbered names },
+    pub ghost of_targets: { AreOfTargets objects },
 }
 
 impl Textures {

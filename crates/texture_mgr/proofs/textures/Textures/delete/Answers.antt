@@ -9,7 +9,10 @@ use Rattle.texture_mgr.proofs.CoversBeside.{covers_removed}
 use Rattle.texture_mgr.proofs.textures.Textures.delete.Goals as goal
 
 pub invariant_of-self-2 : goal.invariant_of-self-2
-invariant_of-self-2 c = record { numbered = numbered-remove c.args.self.now.names c.remove.new.self c.args.id c.args.self.now.numbered c.in-Some.ensures.rest }
+invariant_of-self-2 c = record {
+  numbered = numbered-remove c.args.self.now.names c.remove.new.self c.args.id c.args.self.now.numbered c.in-Some.ensures.rest;
+  of_targets = record { flat = c.args.self.now.of_targets.flat; cube = c.args.self.now.of_targets.cube };
+}
 
 pub returns-clause-tables : goal.returns-clause-tables
 returns-clause-tables c =

@@ -1,11 +1,17 @@
 use Rattle.std.proofs.Common.{ap, ◌∙◌}
-use Rattle.gl_plain.specs.subjects.Textures.{no_bindings}
+use Rattle.gl_plain.specs.subjects.Textures.{TextureObjects, no_bindings}
 use Rattle.texture_mgr.specs.Objects.{objects_of}
 use Rattle.texture_mgr.proofs.Numbers.{numbered-empty}
 use Rattle.texture_mgr.proofs.textures.Textures.new.Goals as goal
 
 pub invariant_of-result : goal.invariant_of-result
-invariant_of-result c = record { numbered = numbered-empty c.new-2.result c.new-2.ensures }
+invariant_of-result c = record {
+  numbered = numbered-empty c.new-2.result c.new-2.ensures;
+  of_targets = record {
+    flat = ap (λ (t : TextureObjects). t.flat.cube) (c.in_ok-objects.ensures.tables no_bindings);
+    cube = ap (λ (t : TextureObjects). t.cube.cube) (c.in_ok-objects.ensures.tables no_bindings);
+  };
+}
 
 pub returns-clause-tables : goal.returns-clause-tables
 returns-clause-tables c = λ i. record { names = c.new-2.ensures i; objects = (ap (objects_of c.in_ok-objects.objects) c.new-3.ensures ∙ c.in_ok-objects.ensures.tables no_bindings) i }
