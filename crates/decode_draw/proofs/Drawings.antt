@@ -8,7 +8,7 @@ use Rattle.gl_plain.specs.declared.driver_calls.DrawDriver.TheVariants.{SetRaste
 use Rattle.gl_plain.specs.subjects.Raster.{is_driver_raster, kept_words}
 use Rattle.gl_plain.specs.draw.Calls.{raster_calls, clear_calls, drawing_calls}
 
-apart : (n : ℕ) → n ≢ 0 → (n == 0) ≡ false
+pub apart : (n : ℕ) → n ≢ 0 → (n == 0) ≡ false
 apart n h = grind (arith, nat_tests)
 
 module _ (mask : ℕ) where

@@ -1,4 +1,5 @@
 -- The lemmas that proofs share.
 pub mod Drawings
 pub mod Family
-pub mod MadeWhole
+pub mod Judgements
+pub mod SampledUnits

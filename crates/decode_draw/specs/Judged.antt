@@ -1,5 +1,5 @@
 -- A command that was judged: the code that it is refused with, or what it draws and how the units are then; and what is left of it.
-use Rattle.std.specs.Prelude.{◌≡◌, false, if◌then◌else◌, List, [], ◌∷◌, Option, None, Some, Result, Ok, Err}
+use Rattle.std.specs.Prelude.{◌≡◌, ℕ, Bool, true, false, not, ◌==◌, if◌then◌else◌, List, [], ◌∷◌, ◌++◌, map, Option, None, Some, Result, Ok, Err}
 use Rattle.gl_plain.specs.declared.commands.DrawCommand.{DrawCommand}
 use Rattle.gl_plain.specs.declared.commands.DrawCommand.TheVariants.{ActiveTexture, Raster, Clear, DrawArrays, DrawElements, Flush, Finish}
 use Rattle.gl_plain.specs.declared.draws.DrawPlan.{DrawPlan}
@@ -9,6 +9,11 @@ use Rattle.gl_plain.specs.declared.driver_calls.DriverCall.TheVariants.{Draw}
 use Rattle.gl_plain.specs.declared.driver_calls.DrawDriver.TheVariants as calls
 use Rattle.gl_plain.specs.declared.errors.GlError.{GlError}
 use Rattle.gl_plain.specs.declared.textures.ImagePlace.{ImagePlace}
+use Rattle.gl_plain.specs.declared.targets.AnyImage.{AnyImage}
+use Rattle.gl_plain.specs.declared.targets.AnyImage.TheVariants as image
+use Rattle.gl_plain.specs.declared.targets.Target.{Target}
+use Rattle.gl_plain.specs.declared.targets.Target.TheVariants as target
+use Rattle.gl_plain.specs.subjects.Targets.{target_images}
 use Rattle.gl_plain.specs.subjects.Textures.{TextureObjects, unit_number, active_texture_refusal}
 use Rattle.gl_plain.specs.subjects.Raster.{raster_refusal}
 use Rattle.gl_plain.specs.subjects.Clears.{clear_refusal}
@@ -23,31 +28,45 @@ use Rattle.decode_draw.specs.declared.judged.Judged.{Judged}
 
 -- nothing is drawn, and no unit was looked at
 abbrev pub nothing : Judged
-nothing = record { plan = no_draw; units = all_units None }
+nothing = record { plan = no_draw; units = all_units None; target = target.Default }
 
 -- a command that draws nothing, by its refusal
 abbrev pub judged_by : Option GlError → Result Judged GlError
 judged_by None = Ok nothing
 judged_by (Some e) = Err e
 
+-- what is drawn to, where anything is
+abbrev pub drawn_to : Bool → Target → Target
+drawn_to true to = to
+drawn_to false to = target.Default
+
+-- a Clear, by its refusal: it draws to what is bound, unless its mask names nothing
+abbrev pub judged_clear : Target → ℕ → Option GlError → Result Judged GlError
+judged_clear to mask None = Ok (record nothing { target = drawn_to (not (mask == 0)) to })
+judged_clear to mask (Some e) = Err e
+
 -- a draw, by its check, with the units as they were looked at
-abbrev pub with_units : List UnitView → Result DrawPlan GlError → Result Judged GlError
-with_units units (Ok plan) = Ok (record { plan = plan; units = units })
-with_units units (Err e) = Err e
+abbrev pub with_units : List UnitView → Target → Result DrawPlan GlError → Result Judged GlError
+with_units units to (Ok plan) = Ok (record { plan = plan; units = units; target = drawn_to plan.draw to })
+with_units units to (Err e) = Err e
 
 -- the code that a command is refused with, or what it draws
 abbrev pub judged : Sources → DrawCommand → Result Judged GlError
 judged s (ActiveTexture unit) = judged_by (active_texture_refusal unit)
 judged s (Raster number words) = judged_by (raster_refusal number words)
-judged s (Clear mask) = judged_by (clear_refusal mask)
-judged s (DrawArrays mode first count) = with_units (units_viewed s) (check_arrays s mode first count)
-judged s (DrawElements mode count kind offset) = with_units (units_viewed s) (check_indexed s mode count kind offset)
+judged s (Clear mask) = judged_clear s.drawable.target mask (clear_refusal s.drawable mask)
+judged s (DrawArrays mode first count) = with_units (units_viewed s) s.drawable.target (check_arrays s mode first count)
+judged s (DrawElements mode count kind offset) = with_units (units_viewed s) s.drawable.target (check_indexed s mode count kind offset)
 judged s Flush = Ok nothing
 judged s Finish = Ok nothing
 
--- the images that are to be whole before what is drawn: those that the units sample
-abbrev pub drawn_first : TextureObjects → Judged → List ImagePlace
-drawn_first t j = if j.plan.draw then places_from t 0 j.units else []
+-- the images of textures that are to be whole before what is drawn: those that the units sample
+abbrev pub sampled_first : TextureObjects → Judged → List ImagePlace
+sampled_first t j = if j.plan.draw then places_from t 0 j.units else []
+
+-- all images that are to be whole: those, and those that are drawn to
+abbrev pub drawn_first : TextureObjects → Judged → List AnyImage
+drawn_first t j = map image.Level (sampled_first t j) ++ target_images j.target
 
 -- a command that sets words or the active unit was not refused
 abbrev pub IsTaken : DrawCommand → Type 0

@@ -1,4 +1,4 @@
 -- The definitions that contracts cite.
 pub mod States
 pub mod Judged
-pub mod Whole
+pub mod Bound

@@ -19,9 +19,10 @@ use gl_driver::Driver;
 use gl_plain::{Command, DrawCommand, DrawPlan, Errors, ExecStop, Fetched, Reply};
 use program_mgr::Programs;
 use svc_raster::Raster;
+use target_mgr::Targets;
 use texture_mgr::Textures;
 
-/// What is left of a command that is not refused, by what it draws, once what it samples is whole.
+/// What is left of a command that is not refused, by what it draws, once what it samples and draws to is whole.
 fn execute<D: Driver>(
     textures: &mut Textures,
     raster: &mut Raster,
@@ -51,10 +52,12 @@ fn execute<D: Driver>(
 }
 
 /// Executes a command on the fixed state, or one that clears or draws. No such command is malformed. A refused one makes no driver call, and
-/// its code is recorded (OpenGL ES 2.0.25, section 2.5). Before a draw, what was never written of the images that it samples is zeroed.
+/// its code is recorded (OpenGL ES 2.0.25, section 2.5). Before a draw or a Clear, what was never written of the images that it
+/// samples or draws to is zeroed.
 pub fn execute_draw<D: Driver>(
     buffers: &Buffers,
     textures: &mut Textures,
+    targets: &mut Targets,
     programs: &Programs,
     attribs: &Attribs,
     raster: &mut Raster,
@@ -62,12 +65,12 @@ pub fn execute_draw<D: Driver>(
     command: DrawCommand,
     driver: &mut D,
 ) -> Result<Reply, ExecStop>
-    requires agrees { AgreesIn (draws_in buffers.now textures.old programs.now attribs.now raster.old errors.old) (D.history driver.old).state }
-    ensures { (payload : List ℕ) → IsLawful D.history D.grown (Draw command) payload (draws_in buffers.now textures.old programs.now attribs.now raster.old errors.old) (draws_in buffers.now textures.new programs.now attribs.now raster.new errors.new) driver.old driver.new result }
+    requires agrees { AgreesIn (draws_in buffers.now textures.old targets.old programs.now attribs.now raster.old errors.old) (D.history driver.old).state }
+    ensures { (payload : List ℕ) → IsLawful D.history D.grown (Draw command) payload (draws_in buffers.now textures.old targets.old programs.now attribs.now raster.old errors.old) (draws_in buffers.now textures.new targets.new programs.now attribs.now raster.new errors.new) driver.old driver.new result }
 {
-    match judge(buffers, textures, programs, attribs, command) {
+    match judge(buffers, textures, targets, programs, attribs, command) {
         Ok(judged) => {
-            zero_drawn(textures, &judged, driver)?;
+            zero_drawn(textures, targets, &judged, driver)?;
             execute(textures, raster, command, judged.plan, driver)
         }
         Err(error) => {
@@ -82,6 +85,7 @@ pub fn execute_draw<D: Driver>(
 pub fn draw_command<D: Driver>(
     buffers: &Buffers,
     textures: &mut Textures,
+    targets: &mut Targets,
     programs: &Programs,
     attribs: &Attribs,
     raster: &mut Raster,
@@ -90,13 +94,13 @@ pub fn draw_command<D: Driver>(
     driver: &mut D,
 ) -> Result<Reply, ExecStop>
     requires family { (c : drawing.DrawCommand) × (command_of command.now ≡ Some (Draw c)) }
-    requires agrees { AgreesIn (draws_in buffers.now textures.old programs.now attribs.now raster.old errors.old) (D.history driver.old).state }
-    ensures { (c : commands.Command) → command_of command.now ≡ Some c → (payload : List ℕ) → IsLawful D.history D.grown c payload (draws_in buffers.now textures.old programs.now attribs.now raster.old errors.old) (draws_in buffers.now textures.new programs.now attribs.now raster.new errors.new) driver.old driver.new result }
+    requires agrees { AgreesIn (draws_in buffers.now textures.old targets.old programs.now attribs.now raster.old errors.old) (D.history driver.old).state }
+    ensures { (c : commands.Command) → command_of command.now ≡ Some c → (payload : List ℕ) → IsLawful D.history D.grown c payload (draws_in buffers.now textures.old targets.old programs.now attribs.now raster.old errors.old) (draws_in buffers.now textures.new targets.new programs.now attribs.now raster.new errors.new) driver.old driver.new result }
 {
     let Some(Command::Draw(drawing)) = command.command() else {
         unreachable!();
     };
     execute_draw(
-        buffers, textures, programs, attribs, raster, errors, drawing, driver,
+        buffers, textures, targets, programs, attribs, raster, errors, drawing, driver,
     )
 }

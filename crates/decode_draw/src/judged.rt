@@ -2,13 +2,15 @@
 ghost use Rattle.std.specs.Prelude.{◌≡◌};
 ghost use Rattle.decode_draw.specs.Judged.{nothing};
 
-use gl_plain::{DrawPlan, UnitView};
+use gl_plain::{DrawPlan, Target, UnitView};
 
-/// A command that is not refused: what it draws, and the texture units as they were looked at.
+/// A command that is not refused: what it draws, the texture units as they were looked at, and what it draws to.
 #[derive(Clone, Copy)]
 pub struct Judged {
     pub plan: DrawPlan,
     pub units: [UnitView; 8],
+    /// What is drawn to; the default framebuffer where nothing is.
+    pub target: Target,
 }
 
 impl Judged {
@@ -19,6 +21,7 @@ impl Judged {
         Judged {
             plan: DrawPlan::none(),
             units: [UnitView::default(); 8],
+            target: Target::Default,
         }
     }
 }

@@ -5,6 +5,9 @@ ghost use Rattle.gl_plain.specs.subjects.Draws as draws;
 ghost use Rattle.buffer_mgr.specs.Tables.{tables};
 ghost use Rattle.program_mgr.specs.Tables as programs_as;
 ghost use Rattle.texture_mgr.specs.Tables as textures_as;
+ghost use Rattle.gl_plain.specs.State.{Surface};
+ghost use Rattle.gl_plain.specs.subjects.Targets.{target_of};
+ghost use Rattle.target_mgr.specs.Tables.{framebuffers};
 ghost use Rattle.decode_draw.specs.States.{sources};
 ghost use Rattle.decode_draw.specs.Judged.{with_units};
 
@@ -13,10 +16,14 @@ use attrib_mgr::Attribs;
 use buffer_mgr::Buffers;
 use draw_check::{check, is_index_kind};
 use gl_base::GlEnum;
-use gl_base::enums::{ELEMENT_ARRAY_BUFFER, FLOAT, FRAMEBUFFER_COMPLETE};
-use gl_plain::{ArraySpec, ArrayView, DrawView, GlError, IndexView, UnitView, VertexAttribute};
+use gl_base::enums::{ELEMENT_ARRAY_BUFFER, FLOAT};
+use gl_plain::{
+    ArraySpec, ArrayView, DrawView, GlError, IndexView, Target, UnitView, VertexAttribute,
+};
 use program_mgr::Programs;
+use target_mgr::Targets;
 use texture_mgr::Textures;
+use whole_images::target_status;
 
 /// How many bytes an object has: none where there is none.
 fn object_size(buffers: &Buffers, object: Option<u64>) -> u32
@@ -86,47 +93,68 @@ fn index_view(buffers: &Buffers, count: i32, kind: GlEnum, offset: u32) -> Index
     IndexView { kind, last }
 }
 
-/// The texture units: how samplers name them, and whether what they sample is complete (sections 2.10.4 and 3.7.10).
-fn units_viewed(textures: &Textures, programs: &Programs) -> [UnitView; 8]
-    ensures { result ≡ draws.with_textures (textures_as.tables textures.now).objects 0 (draws.all_units (programs_as.tables programs.now).installed) }
+/// A texture unit: how samplers name it, whether what it samples is complete, and whether an image of that is drawn to (sections 2.10.4, 3.7.10
+/// and 4.4.4).
+fn unit_viewed(textures: &Textures, target: Target, unit: u32, view: UnitView) -> UnitView
+    ensures { result ≡ draws.with_texture (textures_as.tables textures.now).objects target unit view }
+{
+    if !(view.flat || view.cube) {
+        return UnitView {
+            complete: false,
+            attached: false,
+            ..view
+        };
+    }
+    UnitView {
+        attached: target.is_texture_attached(textures.sampled_number(unit, view)),
+        ..textures.view(unit, view)
+    }
+}
+
+/// All texture units.
+fn units_viewed(textures: &Textures, target: Target, programs: &Programs) -> [UnitView; 8]
+    ensures { result ≡ draws.with_textures (textures_as.tables textures.now).objects target 0 (draws.all_units (programs_as.tables programs.now).installed) }
 {
     let mut units = programs.unit_views();
     for unit in 0..units.len() {
-        units[unit] = textures.view(unit as u32, units[unit]);
+        units[unit] = unit_viewed(textures, target, unit as u32, units[unit]);
     }
     units
 }
 
-/// All that the rules look at. Framebuffer 0, which alone is there yet, is complete (section 4.4.5).
+/// All that the rules look at.
 fn draw_view(
     buffers: &Buffers,
     textures: &Textures,
+    targets: &Targets,
     programs: &Programs,
     attribs: &Attribs,
     mode: GlEnum,
     indexed: Option<IndexView>,
 ) -> DrawView
-    ensures { result ≡ record (draws.draw_view (sources buffers.now textures.now programs.now attribs.now) mode None 0) { indexed = indexed } }
+    ensures { (surface : Surface) → result ≡ record (draws.draw_view (sources surface buffers.now textures.now targets.now programs.now attribs.now) mode None 0) { indexed = indexed } }
 {
+    let target = targets.target();
     DrawView {
         mode,
         indexed,
         arrays: array_views(buffers, attribs),
         used: programs.used_attributes(),
-        units: units_viewed(textures, programs),
-        status: FRAMEBUFFER_COMPLETE,
+        units: units_viewed(textures, target, programs),
+        status: target_status(textures, targets, target),
         program: programs.has_executable(),
     }
 }
 
 /// Judges a draw by what the rules look at.
-fn judge_view(view: &DrawView, first: i32, count: i32) -> Result<Judged, GlError>
-    ensures { result ≡ with_units view.now.units (draws.check_of view.now first count) }
+fn judge_view(view: &DrawView, target: Target, first: i32, count: i32) -> Result<Judged, GlError>
+    ensures { result ≡ with_units view.now.units target (draws.check_of view.now first count) }
 {
     let plan = check(view, first, count)?;
     Ok(Judged {
         plan,
         units: view.units,
+        target: if plan.draw { target } else { Target::Default },
     })
 }
 
@@ -134,22 +162,24 @@ fn judge_view(view: &DrawView, first: i32, count: i32) -> Result<Judged, GlError
 pub fn check_arrays(
     buffers: &Buffers,
     textures: &Textures,
+    targets: &Targets,
     programs: &Programs,
     attribs: &Attribs,
     mode: GlEnum,
     first: i32,
     count: i32,
 ) -> Result<Judged, GlError>
-    ensures { result ≡ with_units (draws.units_viewed (sources buffers.now textures.now programs.now attribs.now)) (draws.check_arrays (sources buffers.now textures.now programs.now attribs.now) mode first count) }
+    ensures { (surface : Surface) → result ≡ with_units (draws.units_viewed (sources surface buffers.now textures.now targets.now programs.now attribs.now)) (target_of (framebuffers targets.now)) (draws.check_arrays (sources surface buffers.now textures.now targets.now programs.now attribs.now) mode first count) }
 {
-    let view = draw_view(buffers, textures, programs, attribs, mode, None);
-    judge_view(&view, first, count)
+    let view = draw_view(buffers, textures, targets, programs, attribs, mode, None);
+    judge_view(&view, targets.target(), first, count)
 }
 
 /// Judges DrawElements.
 pub fn check_indexed(
     buffers: &Buffers,
     textures: &Textures,
+    targets: &Targets,
     programs: &Programs,
     attribs: &Attribs,
     mode: GlEnum,
@@ -157,9 +187,17 @@ pub fn check_indexed(
     kind: GlEnum,
     offset: u32,
 ) -> Result<Judged, GlError>
-    ensures { result ≡ with_units (draws.units_viewed (sources buffers.now textures.now programs.now attribs.now)) (draws.check_indexed (sources buffers.now textures.now programs.now attribs.now) mode count kind offset) }
+    ensures { (surface : Surface) → result ≡ with_units (draws.units_viewed (sources surface buffers.now textures.now targets.now programs.now attribs.now)) (target_of (framebuffers targets.now)) (draws.check_indexed (sources surface buffers.now textures.now targets.now programs.now attribs.now) mode count kind offset) }
 {
     let indices = index_view(buffers, count, kind, offset);
-    let view = draw_view(buffers, textures, programs, attribs, mode, Some(indices));
-    judge_view(&view, 0, count)
+    let view = draw_view(
+        buffers,
+        textures,
+        targets,
+        programs,
+        attribs,
+        mode,
+        Some(indices),
+    );
+    judge_view(&view, targets.target(), 0, count)
 }

@@ -28,7 +28,7 @@ given_is c c1 payload spelled e f given = subst (λ (x : ImageCommand). IsImageD
 
 module _ (c : ImageCommand) (payload : List ℕ) {before : WireState → WireState} where
   -- what was tested, and the law that its driver calls may be made
-  pub ready : (d : DriverState) (agrees : AgreesIn before d) → image_is_bad (before agrees.others).es c ≡ false → image_command_refusal (before agrees.others).es.textures.objects c ≡ None → IsImageData c payload → IsReady c payload before d
+  pub ready : (d : DriverState) (agrees : AgreesIn before d) → image_is_bad (before agrees.others).es c ≡ false → image_command_refusal (before agrees.others).es c ≡ None → IsImageData c payload → IsReady c payload before d
   ready d agrees fair taken given =
       let w : WireState = before agrees.others in
       record {
@@ -37,6 +37,7 @@ module _ (c : ImageCommand) (payload : List ℕ) {before : WireState → WireSta
         taken = taken;
         given = given;
         sound = agrees.agrees.tables.textures.sound;
+        storage = agrees.agrees.tables.renderbuffers.sound;
         may = may_go_on w d agrees.agrees (Image c) payload fair given;
       }
 

@@ -5,18 +5,21 @@ use Rattle.gl_plain.specs.declared.calls.Payload.TheVariants.{Absent, Here}
 use Rattle.gl_plain.specs.declared.textures.LevelView.{LevelView}
 use Rattle.gl_plain.specs.declared.calls.Reply.TheVariants as reply
 use Rattle.gl_plain.specs.declared.commands.DataWords.{DataWords}
-use Rattle.gl_plain.specs.declared.commands.ImageCommand.TheVariants.{TexImage2D}
+use Rattle.gl_plain.specs.declared.commands.ImageCommand.TheVariants.{TexImage2D, CopyTexImage2D}
 use Rattle.gl_plain.specs.declared.driver_calls.DriverCall.{DriverCall}
 use Rattle.gl_plain.specs.declared.driver_calls.DriverCall.TheVariants.{Image}
-use Rattle.gl_plain.specs.declared.driver_calls.ImageDriver.TheVariants.{TexImage}
+use Rattle.gl_plain.specs.declared.driver_calls.ImageDriver.TheVariants.{TexImage, CopyTexImage}
 use Rattle.gl_plain.specs.declared.driver_calls.Stored.{Stored}
 use Rattle.gl_plain.specs.declared.driver_calls.Stored.TheVariants.{Done, Oom}
 use Rattle.gl_plain.specs.declared.errors.GlError.TheVariants.{OutOfMemory}
+use Rattle.gl_plain.specs.declared.image_words.CopyWords.{CopyWords}
 use Rattle.gl_plain.specs.declared.image_words.ImageWords.{ImageWords}
 use Rattle.gl_plain.specs.Outcome.{with_error}
 use Rattle.gl_plain.specs.State.{WireState}
 use Rattle.gl_plain.specs.Words.{natural}
 use Rattle.gl_plain.specs.image.Step.{with_objects}
+use Rattle.gl_base.specs.Rects.{whole}
+use Rattle.gl_plain.specs.subjects.Copies.{copy_image, copy_place}
 use Rattle.gl_plain.specs.subjects.Data.{payload_of}
 use Rattle.gl_plain.specs.subjects.Images.{new_cover, tex_image_effect, unpadded_payload, view_of, with_cover}
 use Rattle.gl_plain.specs.subjects.Textures.{place_bound}
@@ -54,3 +57,23 @@ module _ (i : ImageWords) (words : DataWords) (payload : List ℕ) where
         ends_done served going (λ s. refl) (λ s o. ap (λ (p : Payload). image_call p ∷ []) (is s)) (λ s o. λ i. record { state = sym (then s) i; oracle = o; reply = reply.None })
     ends_stored Oom served going then =
         ends_done served going (λ s. refl) (λ s o. ap (λ (p : Payload). image_call p ∷ []) (is s)) (λ s o. λ i. record { state = sym (then s) i; oracle = o; reply = reply.None })
+
+-- the same of an image that a copy makes
+module _ (copy : CopyWords) (payload : List ℕ) where
+  abbrev pub copied_state : Stored → WireState → WireState
+  copied_state Done w = record w {
+    es = with_objects w.es (tex_image_effect w.es.textures.objects copy.target (natural copy.level) (view_of (copy_image copy)));
+    covers = with_cover w.covers (copy_place w.es.textures.objects copy) (whole (natural copy.width) (natural copy.height));
+  }
+  copied_state Oom w = record w { es = with_error w.es OutOfMemory }
+
+  abbrev pub copy_call : DriverCall
+  copy_call = Image (CopyTexImage copy.target copy.level copy.internal copy.x copy.y copy.width copy.height)
+
+  module _ {D : Type 0} {history : D → History} {grown : D → D → Type 0} {before after : WireState → WireState} {d d2 : D} where
+    pub ends_copied : (answer : Stored) → Served history grown d d2 (record { call = copy_call; answer = stored_answer answer } ∷ []) → (history d2).stop ≡ (history d).stop → ((s : WireState) → after s ≡ copied_state answer (before s))
+        → Acts history grown (own_part (CopyTexImage2D copy) payload) before after d d2 (Ok reply.None)
+    ends_copied Done served going then =
+        ends_done served going (λ s. refl) (λ s o. refl) (λ s o. λ i. record { state = sym (then s) i; oracle = o; reply = reply.None })
+    ends_copied Oom served going then =
+        ends_done served going (λ s. refl) (λ s o. refl) (λ s o. λ i. record { state = sym (then s) i; oracle = o; reply = reply.None })

@@ -1,3 +1,4 @@
 -- The definitions that contracts cite.
 pub mod Unpadded
+pub mod Whole
 pub mod States

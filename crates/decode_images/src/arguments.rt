@@ -51,6 +51,10 @@ pub fn is_malformed(alignment: u32, command: ImageCommand) -> bool
     match command {
         ImageCommand::TexImage2D { image, words } => tex_image_is_bad(alignment, image, words),
         ImageCommand::TexSubImage2D { part, words } => tex_sub_image_is_bad(alignment, part, words),
-        ImageCommand::TexParameteri { .. } => false,
+        ImageCommand::CopyTexImage2D { .. }
+        | ImageCommand::CopyTexSubImage2D { .. }
+        | ImageCommand::TexParameteri { .. }
+        | ImageCommand::GenerateMipmap { .. }
+        | ImageCommand::RenderbufferStorage { .. } => false,
     }
 }

@@ -17,17 +17,17 @@ ghost use Rattle.gl_driver.specs.Payloads.{payload_given};
 ghost use Rattle.gl_driver.specs.Performed.{Acts};
 ghost use Rattle.gl_plain.specs.declared.errors.Errors as errors_of;
 ghost use Rattle.svc_raster.specs.declared.raster.Raster as raster_of;
+ghost use Rattle.target_mgr.specs.declared.targets.Targets as targets_are;
 ghost use Rattle.texture_mgr.specs.Tables.{tables};
 ghost use Rattle.decode_images.specs.States.{images_in, own_part, part_written};
 
-use crate::refusals::natural;
 use gl_base::GlEnum;
 use gl_driver::{Driver, Stored};
-use gl_plain::{Errors, ExecStop, GlError, ImageWords, LevelView, PartWords, Reply};
+use gl_plain::{Errors, ExecStop, GlError, ImageWords, LevelView, PartWords, Reply, natural};
 use texture_mgr::Textures;
 
 /// The image that TexImage2D gives.
-fn view_of(image: ImageWords) -> LevelView
+pub fn view_of(image: ImageWords) -> LevelView
     ensures { result ≡ images.view_of image }
 {
     LevelView {
@@ -58,7 +58,7 @@ pub fn tex_image_2d<D: Driver>(
     requires taken { images.tex_image_refusal image ≡ None }
     requires bound { plain.IsOfKind (is_cube_face image.target) (plain.bound_texture (tables textures.old).objects (is_cube_face image.target)) }
     requires allowed { IsAllowed (D.history driver.old).state (Image (calls.TexImage image.target image.level image.format image.kind image.width image.height (payload_given rows))) }
-    ensures { (words : words_of.DataWords) (payload : List ℕ) (raster : raster_of.Raster) → payload_given rows.entry ≡ images.unpadded_payload image raster.alignments.unpack (payload_of words payload) → Acts D.history D.grown (own_part (command.TexImage2D image words) payload) (images_in textures.old raster errors.old) (images_in textures.new raster errors.new) driver.old driver.new result }
+    ensures { (words : words_of.DataWords) (payload : List ℕ) (targets : targets_are.Targets) (raster : raster_of.Raster) → payload_given rows.entry ≡ images.unpadded_payload image raster.alignments.unpack (payload_of words payload) → Acts D.history D.grown (own_part (command.TexImage2D image words) payload) (images_in textures.old targets raster errors.old) (images_in textures.new targets raster errors.new) driver.old driver.new result }
 {
     let written = rows.is_some();
     match driver.tex_image(
@@ -108,7 +108,7 @@ pub fn tex_parameteri<D: Driver>(
     driver: &mut D,
 ) -> Result<Reply, ExecStop>
     requires taken { plain.tex_parameter_refusal target pname value ≡ None }
-    ensures { (payload : List ℕ) (raster : raster_of.Raster) (errors : errors_of.Errors) → Acts D.history D.grown (own_part (command.TexParameteri target pname value) payload) (images_in textures.old raster errors) (images_in textures.new raster errors) driver.old driver.new result }
+    ensures { (payload : List ℕ) (targets : targets_are.Targets) (raster : raster_of.Raster) (errors : errors_of.Errors) → Acts D.history D.grown (own_part (command.TexParameteri target pname value) payload) (images_in textures.old targets raster errors) (images_in textures.new targets raster errors) driver.old driver.new result }
 {
     driver.tex_parameter(target, pname, value)?;
     textures.set_parameter(target, pname, value);

@@ -2,10 +2,14 @@
 #![tactic(auto)]
 
 mod arguments;
+mod bases;
+mod colours;
 mod command;
+mod copies;
 mod images;
 mod parts;
 mod refusals;
 mod rows;
+mod storage;
 
 pub use command::{execute_image, image_command};

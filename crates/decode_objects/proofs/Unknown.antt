@@ -11,7 +11,7 @@ use Rattle.gl_plain.specs.declared.stop.ExecStop.{ExecStop}
 use Rattle.gl_plain.specs.subjects.Names.{new_name}
 use Rattle.gl_plain.specs.Oracle.{Oracle, first, behind, default_answers}
 use Rattle.gl_plain.specs.State.{EsState, WireState, DriverState}
-use Rattle.gl_plain.specs.Spaces.{Space, Buffers, Textures, names_in, with_name, numbers_in, with_numbers, gen_call}
+use Rattle.gl_plain.specs.Spaces.{Space, Buffers, Textures, Renderbuffers, Framebuffers, names_in, with_name, numbers_in, with_numbers, gen_call}
 use Rattle.gl_plain.specs.Outcome.{leaves}
 use Rattle.gl_plain.specs.driver.Allowed.{IsAllowed}
 use Rattle.gl_plain.specs.driver.Answers.{told, told_call}
@@ -21,8 +21,8 @@ use Rattle.gl_plain.specs.Meaning.{Meaning}
 use Rattle.gl_plain.specs.Parts.{calls_in}
 use Rattle.gl_plain.specs.object.Step.{bind_outcome}
 use Rattle.gl_plain.specs.object.Calls.{bind_calls}
-use Rattle.gl_plain.specs.object.Covers.{bound_covers}
-use Rattle.gl_plain.specs.subjects.Images.{Covers}
+use Rattle.gl_plain.specs.object.Covers.{bound_covers, bound_marks}
+use Rattle.gl_plain.specs.subjects.Images.{Covers, Marks}
 use Rattle.gl_laws.proofs.Lists.{entry}
 use Rattle.gl_laws.proofs.Binds.{known_name, first_number, numbers_behind, gen_told}
 use Rattle.gl_driver.specs.History.{History, Served}
@@ -37,12 +37,21 @@ gen_entry space n = entry (gen_call space) (Name n)
 abbrev pub bind_covers : Space → Covers → ℕ → Oracle → Option names.Name → Covers
 bind_covers Buffers f id o found = f
 bind_covers Textures f id o found = bound_covers f id o found
+bind_covers Renderbuffers f id o found = f
+bind_covers Framebuffers f id o found = f
+
+-- which renderbuffers are written behind a bind
+abbrev pub bind_marks : Space → Marks → ℕ → Oracle → Option names.Name → Marks
+bind_marks Buffers m id o found = m
+bind_marks Textures m id o found = m
+bind_marks Renderbuffers m id o found = bound_marks m id o found
+bind_marks Framebuffers m id o found = m
 
 -- what is left of a bind, once it was found to be neither malformed nor refused
 abbrev pub bind_part : Space → (ℕ → DriverCall) → (EsState → EsState) → ℕ → WireState → Meaning WireState
 bind_part space call bind id w = record {
   bad = false;
-  step = λ o. on_wire (record w { covers = bind_covers space w.covers id o (map.get (names_in space w.es) id) }) (bind_outcome space bind w.es id o (map.get (names_in space w.es) id));
+  step = λ o. on_wire (record w { covers = bind_covers space w.covers id o (map.get (names_in space w.es) id); marks = bind_marks space w.marks id o (map.get (names_in space w.es) id) }) (bind_outcome space bind w.es id o (map.get (names_in space w.es) id));
   calls = λ o. bind_calls space call id o (map.get (names_in space w.es) id);
 }
 
@@ -87,6 +96,16 @@ module _ (space : Space) (call : ℕ → DriverCall) (id : ℕ) where
       covers_unknown found e positive f o = elim space as (λ x. bind_covers x f id (told_call (gen_call x) (Name n) o) found ≡ bind_covers x f id o (Some (new_name n))) [
         | Buffers ↦ refl
         | Textures ↦ rw (e, apart id positive) refl
+        | Renderbuffers ↦ refl
+        | Framebuffers ↦ refl
+      ]
+
+      marks_unknown : (found : Option names.Name) → found ≡ None → id ≢ 0 → (m : Marks) (o : Oracle) → bind_marks space m id (told_call (gen_call space) (Name n) o) found ≡ bind_marks space m id o (Some (new_name n))
+      marks_unknown found e positive m o = elim space as (λ x. bind_marks x m id (told_call (gen_call x) (Name n) o) found ≡ bind_marks x m id o (Some (new_name n))) [
+        | Buffers ↦ refl
+        | Textures ↦ refl
+        | Renderbuffers ↦ rw (e, apart id positive) refl
+        | Framebuffers ↦ refl
       ]
 
       gen_leads : (w : WireState) → map.get (names_in space w.es) id ≡ None → id ≢ 0 → Leads (bind_part space call bind id w) (bind_part space call bind id (named_in space id n w)) (gen_entry space n ∷ [])
@@ -96,7 +115,10 @@ module _ (space : Space) (call : ℕ → DriverCall) (id : ℕ) where
           record {
             fair = refl;
             fair_after = refl;
-            step = λ o i. on_wire (record w { covers = (covers_unknown (map.get (names_in space w.es) id) unknown positive w.covers o ∙ ap (bind_covers space w.covers id o) (sym known)) i }) (
+            step = λ o i. on_wire (record w {
+              covers = (covers_unknown (map.get (names_in space w.es) id) unknown positive w.covers o ∙ ap (bind_covers space w.covers id o) (sym known)) i;
+              marks = (marks_unknown (map.get (names_in space w.es) id) unknown positive w.marks o ∙ ap (bind_marks space w.marks id o) (sym known)) i;
+            }) (
                 (step_unknown w.es (told_call (gen_call space) (Name n) o) (map.get (names_in space w.es) id) unknown positive ∙ (λ i. leaves (bind (with_name space id (number_is o i) w.es)) (rest_is o i))
                 ∙ sym (step_known s o (map.get (names_in space s) id) (new_name n) known)) i);
             calls = λ o. sym (calls_named (map.get (names_in space w.es) id) unknown positive o) ∙ ap (λ found. gen_call space ∷ bind_calls space call id o found) (sym known);

@@ -6,7 +6,9 @@ ghost use Rattle.program_mgr.specs.Tables as programs_as;
 ghost use Rattle.gl_plain.specs.State.{EsState};
 ghost use Rattle.gl_plain.specs.subjects.Buffers as plain;
 ghost use Rattle.gl_plain.specs.subjects.Data as words_of;
-ghost use Rattle.gl_plain.specs.subjects.Textures as textures_of;
+ghost use Rattle.std.specs.FinMap as map;
+ghost use Rattle.target_mgr.specs.Tables.{renderbuffers, framebuffers};
+ghost use Rattle.gl_plain.specs.subjects.Names.{Names, gen_is_bad, bind_is_bad};
 ghost use Rattle.gl_plain.specs.subjects.Programs as programs_of;
 ghost use Rattle.gl_plain.specs.subjects.Uniforms as uniforms;
 ghost use Rattle.gl_plain.specs.object.Arguments.{object_is_bad};
@@ -14,8 +16,9 @@ ghost use Rattle.gl_plain.specs.object.Arguments.{object_is_bad};
 use buffer_mgr::Buffers;
 use gl_base::limits::DATA_LIMIT;
 use gl_base::{is_ordinary, is_reserved};
-use gl_plain::{DataWords, ObjectCommand};
+use gl_plain::{DataWords, Name, ObjectCommand};
 use program_mgr::{Programs, is_given_kind, uniform_needed};
+use target_mgr::Targets;
 use texture_mgr::Textures;
 
 /// Whether GenBuffers may not give this id: it is none that may be given, or it is in use.
@@ -57,16 +60,17 @@ fn buffer_sub_data_is_bad(size: i32, words: DataWords) -> bool
     !words.has_just_needed_data(data_needed(size))
 }
 
-/// Whether GenTextures may not give this id: it is none that may be given, or it is in use.
-fn gen_textures_is_bad(textures: &Textures, id: u32) -> bool
-    ensures { result ≡ textures_of.gen_textures_is_bad (textures_as.tables textures.now).names id }
+/// Whether a Gen of textures, renderbuffers or framebuffers may not give this id, by what its table has of it: it is none that may be given, or it
+/// is in use.
+fn gen_is_bad(id: u32, found: Option<Name>) -> bool
+    ensures { (names : Names) → found ≡ map.get names id → result ≡ gen_is_bad names id }
 {
-    !is_ordinary(id) || textures.name(id).is_some()
+    !is_ordinary(id) || found.is_some()
 }
 
-/// Whether BindTexture may not name this id.
-fn bind_texture_is_bad(id: u32) -> bool
-    ensures { result ≡ textures_of.bind_texture_is_bad id }
+/// Whether a Bind of them may not name this id.
+fn bind_is_bad(id: u32) -> bool
+    ensures { result ≡ bind_is_bad id }
 {
     !(id == 0 || is_ordinary(id))
 }
@@ -89,18 +93,23 @@ fn uniform_is_bad(kind: u32, count: i32, words: DataWords) -> bool
 pub fn is_malformed(
     buffers: &Buffers,
     textures: &Textures,
+    targets: &Targets,
     programs: &Programs,
     command: ObjectCommand,
 ) -> bool
-    ensures { (s : EsState) → result ≡ object_is_bad (record s { buffers = tables buffers.now; textures = textures_as.tables textures.now; programs = programs_as.tables programs.now }) command }
+    ensures { (s : EsState) → result ≡ object_is_bad (record s { buffers = tables buffers.now; textures = textures_as.tables textures.now; renderbuffers = renderbuffers targets.now; framebuffers = framebuffers targets.now; programs = programs_as.tables programs.now }) command }
 {
     match command {
         ObjectCommand::GenBuffers { id } => gen_buffers_is_bad(buffers, id),
         ObjectCommand::BindBuffer { target: _, id } => bind_buffer_is_bad(id),
         ObjectCommand::BufferData { size, words, .. } => buffer_data_is_bad(size, words),
         ObjectCommand::BufferSubData { size, words, .. } => buffer_sub_data_is_bad(size, words),
-        ObjectCommand::GenTextures { id } => gen_textures_is_bad(textures, id),
-        ObjectCommand::BindTexture { target: _, id } => bind_texture_is_bad(id),
+        ObjectCommand::GenTextures { id } => gen_is_bad(id, textures.name(id)),
+        ObjectCommand::GenRenderbuffers { id } => gen_is_bad(id, targets.renderbuffer_name(id)),
+        ObjectCommand::GenFramebuffers { id } => gen_is_bad(id, targets.framebuffer_name(id)),
+        ObjectCommand::BindTexture { target: _, id }
+        | ObjectCommand::BindRenderbuffer { target: _, id }
+        | ObjectCommand::BindFramebuffer { target: _, id } => bind_is_bad(id),
         ObjectCommand::CreateShader { id, kind: _ } | ObjectCommand::CreateProgram { id } => {
             create_is_bad(programs, id)
         }
@@ -116,6 +125,10 @@ pub fn is_malformed(
         } => uniform_is_bad(kind, count, words),
         ObjectCommand::DeleteBuffers { .. }
         | ObjectCommand::DeleteTextures { .. }
+        | ObjectCommand::DeleteRenderbuffers { .. }
+        | ObjectCommand::DeleteFramebuffers { .. }
+        | ObjectCommand::FramebufferTexture2D { .. }
+        | ObjectCommand::FramebufferRenderbuffer { .. }
         | ObjectCommand::VertexAttrib4f { .. }
         | ObjectCommand::VertexAttribPointer { .. }
         | ObjectCommand::EnableVertexAttribArray { .. }

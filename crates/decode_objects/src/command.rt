@@ -11,6 +11,7 @@ ghost use Rattle.decode_objects.specs.States.{objects_in, own_part};
 ghost use Rattle.decode_objects.specs.Ready.{IsReady};
 
 use crate::arguments::is_malformed;
+use crate::attachments::{framebuffer_renderbuffer, framebuffer_texture_2d};
 use crate::attributes::{
     disable_vertex_attrib_array, enable_vertex_attrib_array, vertex_attrib_4f,
     vertex_attrib_pointer,
@@ -18,6 +19,7 @@ use crate::attributes::{
 use crate::buffers::{
     bind_buffer, buffer_data, buffer_sub_data, data_bytes, delete_buffers, gen_buffers,
 };
+use crate::framebuffers::{bind_framebuffer, delete_framebuffers, gen_framebuffers};
 use crate::links::{
     attach_shader, bind_attrib_location, detach_shader, link_program, use_program, validate_program,
 };
@@ -25,6 +27,7 @@ use crate::programs::{
     compile_shader, create_program, create_shader, delete_program, delete_shader, shader_source,
 };
 use crate::refusals::refusal;
+use crate::renderbuffers::{bind_renderbuffer, delete_renderbuffers, gen_renderbuffers};
 use crate::textures::{bind_texture, delete_textures, gen_textures};
 use crate::uniforms::uniform;
 use attrib_mgr::Attribs;
@@ -33,6 +36,7 @@ use gl_driver::Driver;
 use gl_plain::{Command, Errors, ExecStop, Fetched, Malformed, ObjectCommand, Reply};
 use program_mgr::Programs;
 use std::alloc::Global;
+use target_mgr::Targets;
 use texture_mgr::Textures;
 
 /// A command that is neither malformed nor refused.
@@ -40,6 +44,7 @@ fn execute<D: Driver>(
     alloc: Global,
     buffers: &mut Buffers,
     textures: &mut Textures,
+    targets: &mut Targets,
     programs: &mut Programs,
     attribs: &mut Attribs,
     errors: &mut Errors,
@@ -47,8 +52,8 @@ fn execute<D: Driver>(
     command: ObjectCommand,
     driver: &mut D,
 ) -> Result<Reply, ExecStop>
-    requires { IsReady command payload.now (objects_in buffers.old textures.old programs.old attribs.old errors.old) (D.history driver.old).state }
-    ensures { Acts D.history D.grown (own_part command payload.now) (objects_in buffers.old textures.old programs.old attribs.old errors.old) (objects_in buffers.new textures.new programs.new attribs.new errors.new) driver.old driver.new result }
+    requires { IsReady command payload.now (objects_in buffers.old textures.old targets.old programs.old attribs.old errors.old) (D.history driver.old).state }
+    ensures { Acts D.history D.grown (own_part command payload.now) (objects_in buffers.old textures.old targets.old programs.old attribs.old errors.old) (objects_in buffers.new textures.new targets.new programs.new attribs.new errors.new) driver.old driver.new result }
 {
     match command {
         ObjectCommand::GenBuffers { id } => gen_buffers(buffers, id, driver),
@@ -68,7 +73,28 @@ fn execute<D: Driver>(
         ObjectCommand::DeleteBuffers { id } => delete_buffers(buffers, attribs, id, driver),
         ObjectCommand::GenTextures { id } => gen_textures(textures, id, driver),
         ObjectCommand::BindTexture { target, id } => bind_texture(textures, target, id, driver),
-        ObjectCommand::DeleteTextures { id } => delete_textures(textures, id, driver),
+        ObjectCommand::DeleteTextures { id } => delete_textures(textures, targets, id, driver),
+        ObjectCommand::GenRenderbuffers { id } => gen_renderbuffers(targets, id, driver),
+        ObjectCommand::BindRenderbuffer { target, id } => {
+            bind_renderbuffer(targets, target, id, driver)
+        }
+        ObjectCommand::DeleteRenderbuffers { id } => delete_renderbuffers(targets, id, driver),
+        ObjectCommand::GenFramebuffers { id } => gen_framebuffers(targets, id, driver),
+        ObjectCommand::BindFramebuffer { target, id } => {
+            bind_framebuffer(targets, target, id, driver)
+        }
+        ObjectCommand::DeleteFramebuffers { id } => delete_framebuffers(targets, id, driver),
+        ObjectCommand::FramebufferTexture2D {
+            attachment,
+            textarget,
+            texture,
+            ..
+        } => framebuffer_texture_2d(textures, targets, attachment, textarget, texture, driver),
+        ObjectCommand::FramebufferRenderbuffer {
+            attachment,
+            renderbuffer,
+            ..
+        } => framebuffer_renderbuffer(targets, attachment, renderbuffer, driver),
         ObjectCommand::VertexAttrib4f { index, x, y, z, w } => {
             vertex_attrib_4f(attribs, index, x, y, z, w, driver)
         }
@@ -117,6 +143,7 @@ pub fn execute_object<D: Driver>(
     alloc: Global,
     buffers: &mut Buffers,
     textures: &mut Textures,
+    targets: &mut Targets,
     programs: &mut Programs,
     attribs: &mut Attribs,
     errors: &mut Errors,
@@ -125,18 +152,18 @@ pub fn execute_object<D: Driver>(
     driver: &mut D,
 ) -> Result<Reply, ExecStop>
     requires given { IsObjectData command payload.now }
-    requires agrees { AgreesIn (objects_in buffers.old textures.old programs.old attribs.old errors.old) (D.history driver.old).state }
-    ensures { IsLawful D.history D.grown (Object command) payload.now (objects_in buffers.old textures.old programs.old attribs.old errors.old) (objects_in buffers.new textures.new programs.new attribs.new errors.new) driver.old driver.new result }
+    requires agrees { AgreesIn (objects_in buffers.old textures.old targets.old programs.old attribs.old errors.old) (D.history driver.old).state }
+    ensures { IsLawful D.history D.grown (Object command) payload.now (objects_in buffers.old textures.old targets.old programs.old attribs.old errors.old) (objects_in buffers.new textures.new targets.new programs.new attribs.new errors.new) driver.old driver.new result }
 {
-    if is_malformed(buffers, textures, programs, command) {
+    if is_malformed(buffers, textures, targets, programs, command) {
         return Err(ExecStop::Bad(Malformed::InvalidArguments));
     }
-    if let Some(error) = refusal(buffers, textures, programs, command, payload) {
+    if let Some(error) = refusal(buffers, textures, targets, programs, command, payload) {
         errors.note(error);
         return Ok(Reply::None);
     }
     execute(
-        alloc, buffers, textures, programs, attribs, errors, payload, command, driver,
+        alloc, buffers, textures, targets, programs, attribs, errors, payload, command, driver,
     )
 }
 
@@ -145,6 +172,7 @@ pub fn object_command<D: Driver>(
     alloc: Global,
     buffers: &mut Buffers,
     textures: &mut Textures,
+    targets: &mut Targets,
     programs: &mut Programs,
     attribs: &mut Attribs,
     errors: &mut Errors,
@@ -153,13 +181,13 @@ pub fn object_command<D: Driver>(
     driver: &mut D,
 ) -> Result<Reply, ExecStop>
     requires family { (c : objects.ObjectCommand) × (command_of command.now ≡ Some (Object c)) × IsObjectData c payload.now }
-    requires agrees { AgreesIn (objects_in buffers.old textures.old programs.old attribs.old errors.old) (D.history driver.old).state }
-    ensures { (c : commands.Command) → command_of command.now ≡ Some c → IsLawful D.history D.grown c payload.now (objects_in buffers.old textures.old programs.old attribs.old errors.old) (objects_in buffers.new textures.new programs.new attribs.new errors.new) driver.old driver.new result }
+    requires agrees { AgreesIn (objects_in buffers.old textures.old targets.old programs.old attribs.old errors.old) (D.history driver.old).state }
+    ensures { (c : commands.Command) → command_of command.now ≡ Some c → IsLawful D.history D.grown c payload.now (objects_in buffers.old textures.old targets.old programs.old attribs.old errors.old) (objects_in buffers.new textures.new targets.new programs.new attribs.new errors.new) driver.old driver.new result }
 {
     let Some(Command::Object(object)) = command.command() else {
         unreachable!();
     };
     execute_object(
-        alloc, buffers, textures, programs, attribs, errors, payload, object, driver,
+        alloc, buffers, textures, targets, programs, attribs, errors, payload, object, driver,
     )
 }

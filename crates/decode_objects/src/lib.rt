@@ -2,12 +2,15 @@
 #![tactic(auto)]
 
 mod arguments;
+mod attachments;
 mod attributes;
 mod buffers;
 mod command;
+mod framebuffers;
 mod links;
 mod programs;
 mod refusals;
+mod renderbuffers;
 mod textures;
 mod uniforms;
 

@@ -9,7 +9,8 @@ ghost use Rattle.gl_plain.specs.declared.commands.ObjectCommand.TheVariants as c
 ghost use Rattle.gl_plain.specs.Spaces as spaces;
 ghost use Rattle.gl_plain.specs.object.Calls.{bind_texture_call, bind_calls};
 ghost use Rattle.gl_driver.specs.Performed.{Acts};
-ghost use Rattle.decode_objects.specs.States.{textures_in, own_part};
+ghost use Rattle.gl_plain.specs.subjects.Names.{gen_is_bad};
+ghost use Rattle.decode_objects.specs.States.{attached_in, textures_in, own_part};
 ghost use Rattle.decode_objects.specs.Ready.{MayMake};
 
 use gl_base::GlEnum;
@@ -17,6 +18,7 @@ use gl_driver::Driver;
 use gl_plain::{ExecStop, Name, Reply};
 use std::alloc::AllocError;
 use svc_names::NameRefusal;
+use target_mgr::Targets;
 use texture_mgr::Textures;
 
 /// Brings an id into use that is free, and for which there is room. 0 is the number of the default textures alone.
@@ -40,7 +42,7 @@ pub fn gen_textures<D: Driver>(
     id: u32,
     driver: &mut D,
 ) -> Result<Reply, ExecStop>
-    requires fair { plain.gen_textures_is_bad (tables textures.old).names id ≡ false }
+    requires fair { gen_is_bad (tables textures.old).names id ≡ false }
     requires taken { plain.gen_textures_refusal (tables textures.old) ≡ None }
     ensures { Acts D.history D.grown (own_part (command.GenTextures id) []) (textures_in textures.old) (textures_in textures.new) driver.old driver.new result }
 {
@@ -121,20 +123,22 @@ pub fn bind_texture<D: Driver>(
     }
 }
 
-/// DeleteTextures, for one id: the name and its object go, and units that bound it bind the default texture. 0 and an id that is not in use
-/// change nothing, and make no driver call.
+/// DeleteTextures, for one id: the name and its object go, units that bound it bind the default texture, and it is detached from the framebuffer
+/// that is bound. 0 and an id that is not in use change nothing, and make no driver call.
 pub fn delete_textures<D: Driver>(
     textures: &mut Textures,
+    targets: &mut Targets,
     id: u32,
     driver: &mut D,
 ) -> Result<Reply, ExecStop>
     requires may { MayMake (D.history driver.old).state (λ o. plain.delete_textures_calls (map.get (tables textures.old).names id)) }
-    ensures { Acts D.history D.grown (own_part (command.DeleteTextures id) []) (textures_in textures.old) (textures_in textures.new) driver.old driver.new result }
+    ensures { Acts D.history D.grown (own_part (command.DeleteTextures id) []) (attached_in textures.old targets.old) (attached_in textures.new targets.new) driver.old driver.new result }
 {
     let Some(name) = textures.name(id) else {
         return Ok(Reply::None);
     };
     driver.delete_texture(name.number)?;
     textures.delete(id);
+    targets.detach_texture(name.number);
     Ok(Reply::None)
 }

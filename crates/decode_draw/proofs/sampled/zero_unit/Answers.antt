@@ -1,6 +1,7 @@
 use Rattle.texture_mgr.specs.Tables.{tables}
 use Rattle.decode_draw.proofs.Drawings.{turned_false}
-use Rattle.decode_draw.proofs.MadeWhole.{makes_none, no_places}
+use Rattle.whole_images.proofs.MadeWhole.{makes_none}
+use Rattle.decode_draw.proofs.SampledUnits.{no_places}
 use Rattle.decode_draw.proofs.sampled.zero_unit.Goals as goal
 
 pub returns-then-not-view : goal.returns-then-not-view

@@ -2,7 +2,8 @@
 use Rattle.std.proofs.Common.{◌<◌, ◌+◌, length, get_or, drop, arith}
 use Rattle.gl_plain.specs.subjects.Draws.{unit_places, places_from}
 use Rattle.texture_mgr.specs.Tables.{tables}
-use Rattle.decode_draw.proofs.MadeWhole.{no_unit, next_unit, may_in, makes_in, stops_in}
+use Rattle.whole_images.proofs.MadeWhole.{may_in, makes_in, stops_in}
+use Rattle.decode_draw.proofs.SampledUnits.{no_unit, next_unit}
 use Rattle.decode_draw.proofs.sampled.zero_units.Goals as goal
 
 pub zero_unit-requires-clause-may : goal.zero_unit-requires-clause-may

@@ -2,7 +2,7 @@
 use Rattle.std.proofs.Common.{drop}
 use Rattle.gl_plain.specs.subjects.Draws.{places_from}
 use Rattle.texture_mgr.specs.Tables.{tables}
-use Rattle.decode_draw.proofs.MadeWhole.{WholeIn}
+use Rattle.whole_images.proofs.MadeWhole.{WholeIn}
 use Rattle.decode_draw.proofs.sampled.zero_units.Given as goal
 
 abbrev pub invariant-loop-unit : goal.invariant-loop-unit

@@ -7,5 +7,5 @@ use Rattle.decode_draw.proofs.views.units_viewed.Given as goal
 abbrev pub invariant-loop-unit : goal.invariant-loop-unit
 invariant-loop-unit l = record {
   count : length l.units ≡ 8;
-  so_far : take l.unit l.units ++ with_textures (tables l.textures).objects l.unit (drop l.unit l.units) ≡ with_textures (tables l.textures).objects 0 l.initial.units;
+  so_far : take l.unit l.units ++ with_textures (tables l.textures).objects l.target l.unit (drop l.unit l.units) ≡ with_textures (tables l.textures).objects l.target 0 l.initial.units;
 }

@@ -38,13 +38,13 @@ write_part-requires-clause-inside g c =
 pub write_part-requires-clause-may : goal.write_part-requires-clause-may
 write_part-requires-clause-may g c =
     let level : to_z w32 (of_z w32 c.args.part.level) ≡ c.args.part.level = search rules in
-    part_may c.args.part c.args.words c.args.payload.now c.args.textures.now c.args.raster.now no_errors c.place_bound-place.result c.part_rect.result
+    part_may c.args.part c.args.words c.args.payload.now c.args.textures.now c.args.targets.now c.args.raster.now no_errors c.place_bound-place.result c.part_rect.result
     (c.place_bound-place.ensures ∙ ap (place_bound (tables c.args.textures.now).objects c.args.part.target) (c.natural-3.ensures ∙ ap natural level)) c.part_rect.ensures _ (c.requires no_errors)
 
 pub returns-in_err-write_part : goal.returns-in_err-write_part
 returns-in_err-write_part g c errors =
     let level : to_z w32 (of_z w32 c.args.part.level) ≡ c.args.part.level = search rules in
-    part_stops c.args.part c.args.words c.args.payload.now c.args.textures.now c.args.raster.now errors c.place_bound-place.result c.part_rect.result
+    part_stops c.args.part c.args.words c.args.payload.now c.args.textures.now c.args.targets.now c.args.raster.now errors c.place_bound-place.result c.part_rect.result
     (c.place_bound-place.ensures ∙ ap (place_bound (tables c.args.textures.now).objects c.args.part.target) (c.natural-3.ensures ∙ ap natural level)) c.part_rect.ensures (c.requires errors) c.from_residual-in_err-write_part.result c.from_residual-in_err-write_part.ensures.1 c.in_err-write_part.ensures.calls
 
 pub write_rows-requires : goal.write_rows-requires
@@ -53,7 +53,7 @@ write_rows-requires g c =
     let height : to_z w32 (of_z w32 c.args.part.height) ≡ c.args.part.height = search rules in
     let level : to_z w32 (of_z w32 c.args.part.level) ≡ c.args.part.level = search rules in
     record {
-      allowed = part_allowed c.args.part c.args.words c.args.payload.now c.args.textures.now c.args.raster.now no_errors c.place_bound-place.result c.part_rect.result
+      allowed = part_allowed c.args.part c.args.words c.args.payload.now c.args.textures.now c.args.targets.now c.args.raster.now no_errors c.place_bound-place.result c.part_rect.result
           (c.place_bound-place.ensures ∙ ap (place_bound (tables c.args.textures.now).objects c.args.part.target) (c.natural-3.ensures ∙ ap natural level)) c.part_rect.ensures (c.requires no_errors) c.in_ok-write_part.ensures.calls c.rows_or.result.now
           (c.rows_or.ensures ∙ c.in_ok-copied.ensures.rows ∙ (λ i. unpadded ((c.natural.ensures ∙ ap natural width) i) ((c.natural-2.ensures ∙ ap natural height) i) (pixel_size c.args.part.format c.args.part.kind) (c.unpack_alignment.ensures.value i) c.args.payload.now));
     }
@@ -63,7 +63,7 @@ returns g c errors =
     let width : to_z w32 (of_z w32 c.args.part.width) ≡ c.args.part.width = search rules in
     let height : to_z w32 (of_z w32 c.args.part.height) ≡ c.args.part.height = search rules in
     let level : to_z w32 (of_z w32 c.args.part.level) ≡ c.args.part.level = search rules in
-    part_done c.args.part c.args.words c.args.payload.now c.args.textures.now c.args.raster.now errors c.place_bound-place.result c.part_rect.result
+    part_done c.args.part c.args.words c.args.payload.now c.args.textures.now c.args.targets.now c.args.raster.now errors c.place_bound-place.result c.part_rect.result
     (c.place_bound-place.ensures ∙ ap (place_bound (tables c.args.textures.now).objects c.args.part.target) (c.natural-3.ensures ∙ ap natural level)) c.part_rect.ensures (c.requires errors) c.in_ok-write_part.ensures.calls c.rows_or.result.now
     (c.rows_or.ensures ∙ c.in_ok-copied.ensures.rows ∙ (λ i. unpadded ((c.natural.ensures ∙ ap natural width) i) ((c.natural-2.ensures ∙ ap natural height) i) (pixel_size c.args.part.format c.args.part.kind) (c.unpack_alignment.ensures.value i) c.args.payload.now))
     g.met.D.Driver.grown_further c.write_part.new.textures c.in_ok-write_part.ensures.tables c.in_ok-write_part.ensures.covers c.write_rows.result (c.write_rows.ensures c.args.words c.args.payload.now)

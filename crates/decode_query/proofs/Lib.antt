@@ -1,0 +1,5 @@
+-- The lemmas that proofs share.
+mod Padded
+mod Refused
+mod ReadDone
+mod Family
