@@ -18,7 +18,13 @@ use Rattle.counting_driver.proofs.GivenNames.{none_given, still_new}
 
 -- no name was given
 pub counted_opening : (surface : Surface) → AreCounted (new_counting surface)
-counted_opening surface = record { buffers_new = λ n above. set.contains-empty nat_cmp n; textures_new = λ n above. set.contains-empty nat_cmp n; programs_new = λ n above. set.contains-empty nat_cmp n }
+counted_opening surface = record {
+  buffers_new = λ n above. set.contains-empty nat_cmp n;
+  textures_new = λ n above. set.contains-empty nat_cmp n;
+  renderbuffers_new = λ n above. set.contains-empty nat_cmp n;
+  framebuffers_new = λ n above. set.contains-empty nat_cmp n;
+  programs_new = λ n above. set.contains-empty nat_cmp n;
+}
 
 -- the state behind one more entry
 state_behind : (surface : Surface) (js now : List DriverEntry) (e : DriverEntry) → now ≡ js ++ e ∷ [] → state_after (opening_driver surface) now ≡ driver_after (state_after (opening_driver surface) js) e.call e.answer
@@ -55,11 +61,47 @@ module _ (v : CountingView) where
 -- names above those that were given stay so when the next one of a space is given
 module _ (given : NamesGiven) (names : Names) (above : AreAbove given names) (name : ℕ) where
   pub buffer_given : name ≡ names.buffers + 1 → AreAbove (record given { buffers = set.insert given.buffers name }) (record names { buffers = name })
-  buffer_given is = record { buffers_new = still_new given.buffers names.buffers name above.buffers_new is; textures_new = above.textures_new; programs_new = above.programs_new }
+  buffer_given is = record {
+    buffers_new = still_new given.buffers names.buffers name above.buffers_new is;
+    textures_new = above.textures_new;
+    renderbuffers_new = above.renderbuffers_new;
+    framebuffers_new = above.framebuffers_new;
+    programs_new = above.programs_new;
+  }
 
   pub texture_given : name ≡ names.textures + 1 → AreAbove (record given { textures = set.insert given.textures name }) (record names { textures = name })
-  texture_given is = record { buffers_new = above.buffers_new; textures_new = still_new given.textures names.textures name above.textures_new is; programs_new = above.programs_new }
+  texture_given is = record {
+    buffers_new = above.buffers_new;
+    textures_new = still_new given.textures names.textures name above.textures_new is;
+    renderbuffers_new = above.renderbuffers_new;
+    framebuffers_new = above.framebuffers_new;
+    programs_new = above.programs_new;
+  }
+
+  pub renderbuffer_given : name ≡ names.renderbuffers + 1 → AreAbove (record given { renderbuffers = set.insert given.renderbuffers name }) (record names { renderbuffers = name })
+  renderbuffer_given is = record {
+    buffers_new = above.buffers_new;
+    textures_new = above.textures_new;
+    renderbuffers_new = still_new given.renderbuffers names.renderbuffers name above.renderbuffers_new is;
+    framebuffers_new = above.framebuffers_new;
+    programs_new = above.programs_new;
+  }
+
+  pub framebuffer_given : name ≡ names.framebuffers + 1 → AreAbove (record given { framebuffers = set.insert given.framebuffers name }) (record names { framebuffers = name })
+  framebuffer_given is = record {
+    buffers_new = above.buffers_new;
+    textures_new = above.textures_new;
+    renderbuffers_new = above.renderbuffers_new;
+    framebuffers_new = still_new given.framebuffers names.framebuffers name above.framebuffers_new is;
+    programs_new = above.programs_new;
+  }
 
   -- a shader or a program was given it
   pub program_given : name ≡ names.programs + 1 → AreAbove (record given { programs = set.insert given.programs name }) (record names { programs = name })
-  program_given is = record { buffers_new = above.buffers_new; textures_new = above.textures_new; programs_new = still_new given.programs names.programs name above.programs_new is }
+  program_given is = record {
+    buffers_new = above.buffers_new;
+    textures_new = above.textures_new;
+    renderbuffers_new = above.renderbuffers_new;
+    framebuffers_new = above.framebuffers_new;
+    programs_new = still_new given.programs names.programs name above.programs_new is;
+  }

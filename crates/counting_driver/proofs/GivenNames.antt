@@ -10,12 +10,12 @@ use Rattle.gl_plain.specs.declared.driver_calls.DriverCall.{DriverCall}
 use Rattle.gl_plain.specs.declared.driver_calls.DriverCall.TheVariants.{Object, Image, Program, Draw}
 use Rattle.gl_plain.specs.declared.driver_calls.DrawDriver.{DrawDriver}
 use Rattle.gl_plain.specs.declared.driver_calls.DrawDriver.TheVariants.{SetRaster}
-use Rattle.gl_plain.specs.declared.driver_calls.ObjectDriver.TheVariants.{GenBuffer, BufferData, GenTexture}
+use Rattle.gl_plain.specs.declared.driver_calls.ObjectDriver.TheVariants.{GenBuffer, BufferData, GenTexture, GenRenderbuffer, GenFramebuffer}
 use Rattle.gl_plain.specs.declared.driver_calls.ImageDriver.{ImageDriver}
-use Rattle.gl_plain.specs.declared.driver_calls.ImageDriver.TheVariants.{TexImage}
+use Rattle.gl_plain.specs.declared.driver_calls.ImageDriver.TheVariants.{TexImage, CopyTexImage, RenderbufferStorage}
 use Rattle.gl_plain.specs.declared.driver_calls.ProgramDriver.TheVariants.{CreateShader, CreateProgram, CompileShader, LinkProgram, ValidateProgram}
 use Rattle.gl_plain.specs.State.{DriverTables}
-use Rattle.gl_plain.specs.Spaces.{Space, Buffers, Textures}
+use Rattle.gl_plain.specs.Spaces.{Space, Buffers, Textures, Renderbuffers, Framebuffers}
 use Rattle.gl_plain.specs.driver.Effect.{after_gen, after_buffer_data, after_image, after_create, after_compile, after_link, after_validate, after_drawing, tables_after}
 use Rattle.gl_plain.specs.subjects.Programs.{create_shader_effect, create_program_effect}
 use Rattle.counting_driver.specs.Counting.{is_name}
@@ -32,6 +32,10 @@ module _ (t : DriverTables) where
   image_gives : (call : ImageDriver) (answer : Answer) → (after_image t call answer).given ≡ t.given
   image_gives (TexImage target level format kind width height payload) Done = refl
   image_gives (TexImage target level format kind width height payload) answer = refl
+  image_gives (CopyTexImage target level format x y width height) Done = refl
+  image_gives (CopyTexImage target level format x y width height) answer = refl
+  image_gives (RenderbufferStorage format width height) Done = refl
+  image_gives (RenderbufferStorage format width height) answer = refl
   image_gives call answer = refl
 
   create_gives : (create : _) (answer : Answer) → is_name answer ≡ false → (after_create create t answer).given ≡ t.given
@@ -59,6 +63,8 @@ module _ (t : DriverTables) where
   none_given (Object GenBuffer) answer other = gen_gives Buffers answer other
   none_given (Object (BufferData target bytes usage)) answer other = data_gives target bytes usage answer
   none_given (Object GenTexture) answer other = gen_gives Textures answer other
+  none_given (Object GenRenderbuffer) answer other = gen_gives Renderbuffers answer other
+  none_given (Object GenFramebuffer) answer other = gen_gives Framebuffers answer other
   none_given (Object call) answer other = refl
   none_given (Image call) answer other = image_gives call answer
   none_given (Program (CreateShader kind)) answer other = create_gives (λ n. create_shader_effect t.programs n n kind) answer other

@@ -2,7 +2,7 @@
 use Rattle.std.specs.Prelude.{◌≡◌, ◌<◌, ℕ, Bool, true, false}
 use Rattle.std.specs.FinSet as set
 use Rattle.gl_plain.specs.declared.driver_calls.Answer.{Answer}
-use Rattle.gl_plain.specs.declared.driver_calls.Answer.TheVariants.{Done, Name, Oom, Compile, Link, Validate}
+use Rattle.gl_plain.specs.declared.driver_calls.Answer.TheVariants.{Done, Name, Oom, Compile, Link, Validate, Pixels}
 use Rattle.gl_plain.specs.State.{NamesGiven}
 use Rattle.counting_driver.specs.declared.names.Names.{Names}
 
@@ -10,6 +10,8 @@ use Rattle.counting_driver.specs.declared.names.Names.{Names}
 pub record AreAbove (given : NamesGiven) (names : Names) : Type 0 where
   pub buffers_new : (n : ℕ) → names.buffers < n → set.contains given.buffers n ≡ false
   pub textures_new : (n : ℕ) → names.textures < n → set.contains given.textures n ≡ false
+  pub renderbuffers_new : (n : ℕ) → names.renderbuffers < n → set.contains given.renderbuffers n ≡ false
+  pub framebuffers_new : (n : ℕ) → names.framebuffers < n → set.contains given.framebuffers n ≡ false
   pub programs_new : (n : ℕ) → names.programs < n → set.contains given.programs n ≡ false
 
 -- the answer is a name
@@ -20,3 +22,4 @@ is_name Oom = false
 is_name (Compile ok log) = false
 is_name (Link a) = false
 is_name (Validate ok log) = false
+is_name (Pixels bytes) = false

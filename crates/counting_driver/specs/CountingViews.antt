@@ -14,7 +14,7 @@ pub record CountingView : Type 0 where
 
 -- no name was given
 abbrev pub no_names : Names
-no_names = record { buffers = 0; textures = 0; programs = 0 }
+no_names = record { buffers = 0; textures = 0; renderbuffers = 0; framebuffers = 0; programs = 0 }
 
 -- a driver that was given no call
 abbrev pub new_counting : Surface → CountingView

@@ -1,7 +1,7 @@
 -- What a call adds to a journal.
 use Rattle.std.specs.Prelude.{[], ◌∷◌, ◌++◌}
 use Rattle.gl_plain.specs.declared.driver_calls.Answer.{Answer}
-use Rattle.gl_plain.specs.declared.driver_calls.Answer.TheVariants.{Done}
+use Rattle.gl_plain.specs.declared.driver_calls.Answer.TheVariants.{Done, Pixels}
 use Rattle.gl_plain.specs.declared.driver_calls.DriverCall.{DriverCall}
 use Rattle.gl_plain.specs.declared.driver_calls.DriverCall.TheVariants.{Object, Image, Program, Draw}
 use Rattle.gl_plain.specs.declared.driver_calls.DriverEntry.{DriverEntry}
@@ -12,7 +12,7 @@ use Rattle.gl_plain.specs.declared.driver_calls.DrawDriver.TheVariants as drawin
 use Rattle.gl_driver.specs.Payloads.{payload_given}
 use Rattle.counting_driver.specs.declared.journal.Journal.{Journal}
 use Rattle.counting_driver.specs.declared.journal.Made.{Made}
-use Rattle.counting_driver.specs.declared.journal.Made.TheVariants.{BufferData, BufferSubData, TexImage, TexSubImage, ShaderSource, BindAttribLocation, Uniform, SetRaster, Plain}
+use Rattle.counting_driver.specs.declared.journal.Made.TheVariants.{BufferData, BufferSubData, TexImage, TexSubImage, ShaderSource, BindAttribLocation, Uniform, SetRaster, ReadPixels, Plain}
 
 -- the call that was made
 abbrev pub call_made : Made → DriverCall
@@ -24,6 +24,7 @@ call_made (ShaderSource name bytes) = Program (programs.ShaderSource name bytes.
 call_made (BindAttribLocation program index name) = Program (programs.BindAttribLocation program index name.now)
 call_made (Uniform location kind count bytes) = Program (programs.Uniform location kind count bytes.now)
 call_made (SetRaster number words) = Draw (drawing.SetRaster number words.now)
+call_made (ReadPixels x y width height pixels) = Image (images.ReadPixels x y width height)
 call_made (Plain call answer) = call.now
 
 -- its answer
@@ -36,6 +37,7 @@ answer_made (ShaderSource name bytes) = Done
 answer_made (BindAttribLocation program index name) = Done
 answer_made (Uniform location kind count bytes) = Done
 answer_made (SetRaster number words) = Done
+answer_made (ReadPixels x y width height pixels) = Pixels pixels.now
 answer_made (Plain call answer) = answer.now
 
 -- both, as a journal has them

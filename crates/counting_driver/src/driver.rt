@@ -1,28 +1,28 @@
 //! A driver that gives new names by counting, and says that all went well.
-ghost use Rattle.std.specs.Prelude.{◌≡◌, ◌+◌, [], ◌∷◌, IfOk, OnOk, OnErr, None, Ok, false};
+ghost use Rattle.std.specs.Prelude.{◌≡◌, ◌≤◌, ◌+◌, [], ◌∷◌, length, IfOk, OnOk, OnErr, None, Ok, false};
 ghost use Rattle.gl_plain.specs.driver.Allowed.{IsAllowed};
 ghost use Rattle.gl_plain.specs.driver.Answers.{IsAnswer};
 ghost use Rattle.gl_plain.specs.driver.Effect.{driver_after};
-ghost use Rattle.gl_plain.specs.subjects.Links.{default_link};
+ghost use Rattle.gl_base.specs.declared.limits.TheConstants.{DATA_LIMIT};
+ghost use Rattle.gl_plain.specs.Words.{is_negative, natural};
+ghost use Rattle.gl_plain.specs.subjects.Copies.{read_count};
 ghost use Rattle.gl_driver.specs.History.{Served, Caused, done, entered};
 ghost use Rattle.counting_driver.specs.Counting.{AreAbove, is_name};
 ghost use Rattle.counting_driver.specs.CountingViews.{new_counting};
 ghost use Rattle.counting_driver.specs.CountingHistory.{history_of, IsLater};
 ghost use Rattle.counting_driver.specs.Entries.{answer_made, call_made, entry_made};
 
+mod calls;
+
 use crate::journal::{Journal, Made};
 use crate::names::Names;
-use gl_base::{GlEnum, Rect};
-use gl_driver::{Driver, DriverStop, Stored};
-use gl_plain::{
-    Answer, AttributeList, Bytes, DrawDriver, DriverCall, ImageDriver, ImagePlace, LinkAnswer,
-    ObjectDriver, PartWords, ProgramDriver, UniformList,
-};
+use gl_driver::DriverStop;
+use gl_plain::{Answer, Bytes, DriverCall};
 use std::alloc::Global;
 use std::marker::Model;
 
-/// A driver that executes nothing: new names are counted, there is always room, and compilations, links and validations go well with nothing
-/// to say. Its journal takes no memory. It stops only where names run out.
+/// A driver that executes nothing: new names are counted, there is always room, compilations, links and validations go well with nothing to
+/// say, and pixels are zero. Its journal takes no memory. It stops only where names run out, or there is no memory for pixels.
 #[derive(Drop)]
 pub struct CountingDriver {
     alloc: Global,
@@ -54,6 +54,8 @@ impl CountingDriver {
             names: Names {
                 buffers: 0,
                 textures: 0,
+                renderbuffers: 0,
+                framebuffers: 0,
                 programs: 0,
             },
             stop: None,
@@ -91,6 +93,27 @@ impl CountingDriver {
         match last.checked_add(1) {
             Some(name) => Ok(name),
             None => {
+                self.stop = Some(DriverStop::NoMemory);
+                Err(DriverStop::NoMemory)
+            }
+        }
+    }
+
+    /// The pixels of a read, which are zero. Without memory for them it stops.
+    fn zeros(&mut self, width: i32, height: i32) -> Result<Bytes, DriverStop>
+        requires columns { is_negative width ≡ false }
+        requires rows { is_negative height ≡ false }
+        requires size { read_count (natural width) (natural height) ≤ DATA_LIMIT }
+        ensures same { OnOk result (self.new ≡ self.old) }
+        ensures going { OnOk result (self.old.stop ≡ None) }
+        ensures count { IfOk result (λ pixels. length pixels ≡ read_count (natural width) (natural height)) }
+        ensures served { OnErr result (Served history_of IsLater self.old self.new []) }
+        ensures cause { OnErr result (Caused (history_of self.old) (history_of self.new) result) }
+    {
+        self.going()?;
+        match Bytes::zeros(self.alloc, width as usize * height as usize * 4) {
+            Ok(pixels) => Ok(pixels),
+            Err(_) => {
                 self.stop = Some(DriverStop::NoMemory);
                 Err(DriverStop::NoMemory)
             }
@@ -150,359 +173,5 @@ impl CountingDriver {
             call: &call,
             answer: &Answer::Done,
         })
-    }
-}
-
-impl Driver for CountingDriver {
-    ghost use Rattle.counting_driver.specs.CountingHistory.{history_of, IsLater, later_itself, later_further};
-
-    ghost history = { history_of };
-
-    ghost grown = { IsLater };
-
-    fn gen_buffer(&mut self) -> Result<u64, DriverStop> {
-        let name = self.name_behind(self.names.buffers)?;
-        let call = DriverCall::Object(ObjectDriver::GenBuffer);
-        let names = Names {
-            buffers: name,
-            ..self.names
-        };
-        self.give(call, name, names);
-        Ok(name)
-    }
-
-    fn bind_buffer(&mut self, target: GlEnum, name: u64) -> Result<(), DriverStop> {
-        self.make_plain(DriverCall::Object(ObjectDriver::BindBuffer { target, name }))
-    }
-
-    fn buffer_data(
-        &mut self,
-        target: GlEnum,
-        bytes: &[u8],
-        usage: GlEnum,
-    ) -> Result<Stored, DriverStop> {
-        self.make(&Made::BufferData {
-            target,
-            bytes,
-            usage,
-        })?;
-        Ok(Stored::Done)
-    }
-
-    fn buffer_sub_data(
-        &mut self,
-        target: GlEnum,
-        offset: i32,
-        bytes: &[u8],
-    ) -> Result<(), DriverStop> {
-        self.make(&Made::BufferSubData {
-            target,
-            offset,
-            bytes,
-        })
-    }
-
-    fn delete_buffer(&mut self, name: u64) -> Result<(), DriverStop> {
-        self.make_plain(DriverCall::Object(ObjectDriver::DeleteBuffer { name }))
-    }
-
-    fn gen_texture(&mut self) -> Result<u64, DriverStop> {
-        let name = self.name_behind(self.names.textures)?;
-        let call = DriverCall::Object(ObjectDriver::GenTexture);
-        let names = Names {
-            textures: name,
-            ..self.names
-        };
-        self.give(call, name, names);
-        Ok(name)
-    }
-
-    fn bind_texture(&mut self, target: GlEnum, name: u64) -> Result<(), DriverStop> {
-        self.make_plain(DriverCall::Object(ObjectDriver::BindTexture { target, name }))
-    }
-
-    fn delete_texture(&mut self, name: u64) -> Result<(), DriverStop> {
-        self.make_plain(DriverCall::Object(ObjectDriver::DeleteTexture { name }))
-    }
-
-    fn vertex_attrib_4(&mut self, index: u32, values: [u32; 4]) -> Result<(), DriverStop> {
-        self.make_plain(DriverCall::Object(ObjectDriver::VertexAttrib4 { index, values }))
-    }
-
-    fn vertex_attrib_pointer(
-        &mut self,
-        index: u32,
-        size: i32,
-        kind: GlEnum,
-        normalized: bool,
-        stride: i32,
-        offset: u32,
-    ) -> Result<(), DriverStop> {
-        self.make_plain(DriverCall::Object(ObjectDriver::VertexAttribPointer {
-            index,
-            size,
-            kind,
-            normalized,
-            stride,
-            offset,
-        }))
-    }
-
-    fn set_array(&mut self, index: u32, on: bool) -> Result<(), DriverStop> {
-        self.make_plain(DriverCall::Object(ObjectDriver::SetArray { index, on }))
-    }
-
-    fn tex_image(
-        &mut self,
-        target: GlEnum,
-        level: i32,
-        format: GlEnum,
-        kind: GlEnum,
-        width: i32,
-        height: i32,
-        bytes: Option<&[u8]>,
-    ) -> Result<Stored, DriverStop> {
-        self.make(&Made::TexImage {
-            target,
-            level,
-            format,
-            kind,
-            width,
-            height,
-            bytes,
-        })?;
-        Ok(Stored::Done)
-    }
-
-    fn tex_sub_image(
-        &mut self,
-        target: GlEnum,
-        level: i32,
-        x: i32,
-        y: i32,
-        width: i32,
-        height: i32,
-        format: GlEnum,
-        kind: GlEnum,
-        bytes: &[u8],
-    ) -> Result<(), DriverStop> {
-        let part = PartWords {
-            target,
-            level,
-            x,
-            y,
-            width,
-            height,
-            format,
-            kind,
-        };
-        self.make(&Made::TexSubImage { part, bytes })
-    }
-
-    fn zero_level(
-        &mut self,
-        name: u64,
-        face: GlEnum,
-        level: u32,
-        x: u32,
-        y: u32,
-        width: u32,
-        height: u32,
-    ) -> Result<(), DriverStop> {
-        let place = ImagePlace {
-            texture: name,
-            face,
-            level,
-        };
-        let rect = Rect {
-            x,
-            y,
-            width,
-            height,
-        };
-        self.make_plain(DriverCall::Image(ImageDriver::ZeroLevel { place, rect }))
-    }
-
-    fn tex_parameter(
-        &mut self,
-        target: GlEnum,
-        parameter: GlEnum,
-        value: GlEnum,
-    ) -> Result<(), DriverStop> {
-        self.make_plain(DriverCall::Image(ImageDriver::TexParameter {
-            target,
-            pname: parameter,
-            value,
-        }))
-    }
-
-    fn create_shader(&mut self, kind: GlEnum) -> Result<u64, DriverStop> {
-        let name = self.name_behind(self.names.programs)?;
-        let call = DriverCall::Program(ProgramDriver::CreateShader { kind });
-        let names = Names {
-            programs: name,
-            ..self.names
-        };
-        self.give(call, name, names);
-        Ok(name)
-    }
-
-    fn create_program(&mut self) -> Result<u64, DriverStop> {
-        let name = self.name_behind(self.names.programs)?;
-        let call = DriverCall::Program(ProgramDriver::CreateProgram);
-        let names = Names {
-            programs: name,
-            ..self.names
-        };
-        self.give(call, name, names);
-        Ok(name)
-    }
-
-    fn delete_shader(&mut self, name: u64) -> Result<(), DriverStop> {
-        self.make_plain(DriverCall::Program(ProgramDriver::DeleteShader { name }))
-    }
-
-    fn delete_program(&mut self, name: u64) -> Result<(), DriverStop> {
-        self.make_plain(DriverCall::Program(ProgramDriver::DeleteProgram { name }))
-    }
-
-    fn shader_source(&mut self, name: u64, bytes: &[u8]) -> Result<(), DriverStop> {
-        self.make(&Made::ShaderSource { name, bytes })
-    }
-
-    fn compile_shader(&mut self, name: u64) -> Result<(bool, Bytes), DriverStop> {
-        let call = DriverCall::Program(ProgramDriver::CompileShader { name });
-        let answer = Answer::Compile {
-            ok: true,
-            log: Bytes::new(self.alloc),
-        };
-        self.make(&Made::Plain {
-            call: &call,
-            answer: &answer,
-        })?;
-        Ok((true, Bytes::new(self.alloc)))
-    }
-
-    fn attach_shader(&mut self, program: u64, shader: u64) -> Result<(), DriverStop> {
-        self.make_plain(DriverCall::Program(ProgramDriver::AttachShader { program, shader }))
-    }
-
-    fn detach_shader(&mut self, program: u64, shader: u64) -> Result<(), DriverStop> {
-        self.make_plain(DriverCall::Program(ProgramDriver::DetachShader { program, shader }))
-    }
-
-    fn bind_attrib_location(
-        &mut self,
-        program: u64,
-        index: u32,
-        name: &[u8],
-    ) -> Result<(), DriverStop> {
-        self.make(&Made::BindAttribLocation {
-            program,
-            index,
-            name,
-        })
-    }
-
-    fn link_program(&mut self, name: u64) -> Result<LinkAnswer, DriverStop> {
-        let call = DriverCall::Program(ProgramDriver::LinkProgram { name });
-        let answer = Answer::Link(bare_link(self.alloc));
-        self.make(&Made::Plain {
-            call: &call,
-            answer: &answer,
-        })?;
-        Ok(bare_link(self.alloc))
-    }
-
-    fn validate_program(&mut self, name: u64) -> Result<(bool, Bytes), DriverStop> {
-        let call = DriverCall::Program(ProgramDriver::ValidateProgram { name });
-        let answer = Answer::Validate {
-            ok: true,
-            log: Bytes::new(self.alloc),
-        };
-        self.make(&Made::Plain {
-            call: &call,
-            answer: &answer,
-        })?;
-        Ok((true, Bytes::new(self.alloc)))
-    }
-
-    fn use_program(&mut self, name: u64) -> Result<(), DriverStop> {
-        self.make_plain(DriverCall::Program(ProgramDriver::UseProgram { name }))
-    }
-
-    fn uniform(
-        &mut self,
-        location: i32,
-        kind: u32,
-        count: i32,
-        bytes: &[u8],
-    ) -> Result<(), DriverStop> {
-        self.make(&Made::Uniform {
-            location,
-            kind,
-            count,
-            bytes,
-        })
-    }
-
-    fn active_texture(&mut self, unit: u32) -> Result<(), DriverStop> {
-        self.make_plain(DriverCall::Draw(DrawDriver::ActiveTexture { unit }))
-    }
-
-    fn set_raster(&mut self, number: u32, words: &[u32]) -> Result<(), DriverStop> {
-        self.make(&Made::SetRaster { number, words })
-    }
-
-    fn clear(&mut self, mask: u32) -> Result<(), DriverStop> {
-        self.make_plain(DriverCall::Draw(DrawDriver::Clear { mask }))
-    }
-
-    fn draw_arrays(
-        &mut self,
-        mode: GlEnum,
-        first: i32,
-        count: i32,
-        black: u32,
-    ) -> Result<(), DriverStop> {
-        self.make_plain(DriverCall::Draw(DrawDriver::DrawArrays {
-            mode,
-            first,
-            count,
-            black,
-        }))
-    }
-
-    fn draw_elements(
-        &mut self,
-        mode: GlEnum,
-        count: i32,
-        kind: GlEnum,
-        offset: u32,
-        black: u32,
-    ) -> Result<(), DriverStop> {
-        self.make_plain(DriverCall::Draw(DrawDriver::DrawElements {
-            mode,
-            count,
-            kind,
-            offset,
-            black,
-        }))
-    }
-
-    ghost grown_itself = { later_itself };
-
-    ghost grown_further = { later_further };
-}
-
-/// A link that went well, with nothing active. It takes no memory.
-fn bare_link(alloc: Global) -> LinkAnswer
-    ensures { result ≡ default_link }
-{
-    LinkAnswer {
-        ok: true,
-        log: Bytes::new(alloc),
-        attributes: AttributeList::new(alloc),
-        uniforms: UniformList::new(alloc),
     }
 }

@@ -63,7 +63,15 @@ pub enum Made<'a> {
         number: u32,
         words: &'a [u32],
     },
-    /// A call without bytes, and its answer. Those above are answered `Done`.
+    /// A read with the pixels that it gave.
+    ReadPixels {
+        x: i32,
+        y: i32,
+        width: i32,
+        height: i32,
+        pixels: &'a [u8],
+    },
+    /// A call without bytes, and its answer. Those above but the read are answered `Done`.
     Plain {
         call: &'a DriverCall,
         answer: &'a Answer,

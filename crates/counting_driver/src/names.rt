@@ -5,6 +5,8 @@
 pub struct Names {
     pub buffers: u64,
     pub textures: u64,
+    pub renderbuffers: u64,
+    pub framebuffers: u64,
     /// Those of shaders and programs, which share one name space.
     pub programs: u64,
 }

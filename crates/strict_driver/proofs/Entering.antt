@@ -11,18 +11,20 @@ use Rattle.gl_plain.specs.declared.driver_calls.DriverCall.{DriverCall}
 use Rattle.gl_plain.specs.declared.driver_calls.DriverCall.TheVariants.{Object, Image, Program, Draw}
 use Rattle.gl_plain.specs.declared.driver_calls.DrawDriver.{DrawDriver}
 use Rattle.gl_plain.specs.declared.driver_calls.DrawDriver.TheVariants.{SetRaster}
-use Rattle.gl_plain.specs.declared.driver_calls.ObjectDriver.TheVariants.{GenBuffer, BufferData, GenTexture}
-use Rattle.gl_plain.specs.declared.driver_calls.ImageDriver.TheVariants.{TexImage}
+use Rattle.gl_plain.specs.declared.driver_calls.ObjectDriver.TheVariants.{GenBuffer, BufferData, GenTexture, GenRenderbuffer, GenFramebuffer}
+use Rattle.gl_plain.specs.declared.driver_calls.ImageDriver.TheVariants.{TexImage, CopyTexImage, RenderbufferStorage, ReadPixels}
 use Rattle.gl_plain.specs.declared.driver_calls.ProgramDriver.TheVariants.{CreateShader, CreateProgram, CompileShader, LinkProgram, ValidateProgram}
 use Rattle.gl_plain.specs.declared.driver_calls.Stored.{Stored}
 use Rattle.gl_plain.specs.declared.driver_calls.Stored.TheVariants as room
 use Rattle.gl_plain.specs.CommonLines.{are_sound_answers}
-use Rattle.gl_plain.specs.State.{DriverTables, DriverState, opening_driver, opening_tables}
-use Rattle.gl_plain.specs.driver.Answers.{IsAnswer, IsDrawingAnswer, IsStored, drawing_answer, answer_to, behind_call, behind_entries, stored_answer, told}
+use Rattle.gl_plain.specs.State.{DriverTables, DriverState, NamesGiven, opening_driver, opening_tables}
+use Rattle.gl_plain.specs.Words.{natural}
+use Rattle.gl_plain.specs.subjects.Copies.{read_count}
+use Rattle.gl_plain.specs.driver.Answers.{IsAnswer, IsDrawingAnswer, IsStored, drawing_answer, answer_to, behind_call, behind_entries, stored_answer}
 use Rattle.gl_plain.specs.driver.Allowed.{IsAllowed}
-use Rattle.gl_plain.specs.driver.Effect.{after_buffer_data, after_tex_image, after_drawing, tables_after}
+use Rattle.gl_plain.specs.driver.Effect.{after_buffer_data, after_tex_image, after_storage, after_drawing, tables_after}
 use Rattle.gl_plain.specs.Journal.{IsLegalEntry, state_after}
-use Rattle.gl_plain.specs.Oracle.{Oracle, first, answers_of, stored_at, compile_in, link_in, validate_in}
+use Rattle.gl_plain.specs.Oracle.{Oracle, first, answers_of, stored_at, compile_in, link_in, validate_in, pixels_in}
 use Rattle.gl_plain.proofs.Journals.{state_after-append, IsLegal-append}
 use Rattle.gl_driver.specs.History.{Served, is_oom}
 use Rattle.strict_driver.specs.declared.counts.Counts.{Counts}
@@ -33,7 +35,9 @@ use Rattle.strict_driver.specs.declared.strict.StrictDriver.TheInside.{Inside}
 use Rattle.strict_driver.specs.StrictInside.{view_of, IsStrict, IsStrictJournal, IsCounted, IsInStep}
 use Rattle.strict_driver.specs.StrictHistory.{history_of, answers_left, Continues}
 use Rattle.strict_driver.specs.TableState.{Follow, left_by, state_of}
-use Rattle.strict_driver.proofs.Answered.{behind_entries-append, AreAnsweredBy-append, drawing_asks_nothing, told_behind}
+use Rattle.strict_driver.proofs.Answered.{drawing_asks_nothing}
+use Rattle.strict_driver.specs.Behind.{behind_entries-append, AreAnsweredBy-append}
+use Rattle.strict_driver.proofs.Fitted.{length-fitted}
 use Rattle.strict_driver.proofs.NamesGiven.{next_is_fresh, up_to_next}
 use Rattle.strict_driver.proofs.Sound.{compile_sound, link_sound, validate_sound}
 
@@ -50,8 +54,13 @@ pub next_fits : (d : DriverState) (loaded : Answers) (n : Counts) (call : Driver
 next_fits d loaded n (Object GenBuffer) sound is = rw is (next_is_fresh n.buffers (n.buffers + 1 + 0) (omega arith))
 next_fits d loaded n (Object (BufferData target bytes usage)) sound is = is_stored (stored_at loaded.oom (n.stores + 0))
 next_fits d loaded n (Object GenTexture) sound is = rw is (next_is_fresh n.textures (n.textures + 1 + 0) (omega arith))
+next_fits d loaded n (Object GenRenderbuffer) sound is = rw is (next_is_fresh n.renderbuffers (n.renderbuffers + 1 + 0) (omega arith))
+next_fits d loaded n (Object GenFramebuffer) sound is = rw is (next_is_fresh n.framebuffers (n.framebuffers + 1 + 0) (omega arith))
 next_fits d loaded n (Object call) sound is = tt
 next_fits d loaded n (Image (TexImage target level format kind width height payload)) sound is = is_stored (stored_at loaded.oom (n.stores + 0))
+next_fits d loaded n (Image (CopyTexImage target level format x y width height)) sound is = is_stored (stored_at loaded.oom (n.stores + 0))
+next_fits d loaded n (Image (RenderbufferStorage format width height)) sound is = is_stored (stored_at loaded.oom (n.stores + 0))
+next_fits d loaded n (Image (ReadPixels x y width height)) sound is = length-fitted (read_count (natural width) (natural height)) (pixels_in (slice_get loaded.pixels (n.reads + 0)))
 next_fits d loaded n (Image call) sound is = tt
 next_fits d loaded n (Program (CreateShader kind)) sound is = rw is (next_is_fresh n.programs (n.programs + 1 + 0) (omega arith))
 next_fits d loaded n (Program CreateProgram) sound is = rw is (next_is_fresh n.programs (n.programs + 1 + 0) (omega arith))
@@ -63,11 +72,16 @@ next_fits d loaded n (Draw call) sound is = is_drawing_answer call
 
 module _ (t : DriverTables) (loaded : Answers) (n n2 : Counts) (is : t.given ≡ given_by n) where
   -- so many names of each kind were given
-  abbrev AreGiven : ℕ → ℕ → ℕ → Type 0
-  AreGiven buffers textures programs = (n2.buffers ≡ buffers) × (n2.textures ≡ textures) × (n2.programs ≡ programs)
+  abbrev AreGiven : ℕ → ℕ → ℕ → ℕ → ℕ → Type 0
+  AreGiven buffers textures renderbuffers framebuffers programs =
+      (n2.buffers ≡ buffers) × (n2.textures ≡ textures) × (n2.renderbuffers ≡ renderbuffers) × (n2.framebuffers ≡ framebuffers) × (n2.programs ≡ programs)
 
-  given_as : (buffers textures programs : ℕ) → AreGiven buffers textures programs → record { buffers = up_to buffers; textures = up_to textures; programs = up_to programs } ≡ given_by n2
-  given_as buffers textures programs now = λ i. record { buffers = up_to (sym now.0 i); textures = up_to (sym now.1 i); programs = up_to (sym now.2 i) }
+  abbrev given_up_to : ℕ → ℕ → ℕ → ℕ → ℕ → NamesGiven
+  given_up_to buffers textures renderbuffers framebuffers programs =
+      record { buffers = up_to buffers; textures = up_to textures; renderbuffers = up_to renderbuffers; framebuffers = up_to framebuffers; programs = up_to programs }
+
+  given_as : (buffers textures renderbuffers framebuffers programs : ℕ) → AreGiven buffers textures renderbuffers framebuffers programs → given_up_to buffers textures renderbuffers framebuffers programs ≡ given_by n2
+  given_as buffers textures renderbuffers framebuffers programs now = λ i. given_up_to (sym now.0 i) (sym now.1 i) (sym now.2 i) (sym now.3 i) (sym now.4 i)
 
   stored_gives : (target : _) (bytes : List ℕ) (usage : _) (s : Stored) → (after_buffer_data t target bytes usage (stored_answer s)).given ≡ t.given
   stored_gives target bytes usage room.Done = refl
@@ -77,59 +91,104 @@ module _ (t : DriverTables) (loaded : Answers) (n n2 : Counts) (is : t.given ≡
   image_gives target level v room.Done = refl
   image_gives target level v room.Oom = refl
 
+  storage_gives : (v : _) (s : Stored) → (after_storage t v (stored_answer s)).given ≡ t.given
+  storage_gives v room.Done = refl
+  storage_gives v room.Oom = refl
+
   drawing_gives : (call : DrawDriver) → (after_drawing t call).given ≡ t.given
   drawing_gives (SetRaster number words) = refl
   drawing_gives call = refl
 
-  one_more_buffer : AreGiven (n.buffers + 1) n.textures n.programs → record t.given { buffers = set.insert t.given.buffers (n.buffers + 1 + 0) } ≡ given_by n2
+  one_more_buffer : AreGiven (n.buffers + 1) n.textures n.renderbuffers n.framebuffers n.programs → record t.given { buffers = set.insert t.given.buffers (n.buffers + 1 + 0) } ≡ given_by n2
   one_more_buffer now =
       (λ i. record (is i) { buffers = set.insert (is i).buffers (add-zero (n.buffers + 1) i) })
-      ∙ (λ i. record (given_by n) { buffers = sym (up_to_next n.buffers) i }) ∙ given_as (n.buffers + 1) n.textures n.programs now
+      ∙ (λ i. record (given_by n) { buffers = sym (up_to_next n.buffers) i }) ∙ given_as (n.buffers + 1) n.textures n.renderbuffers n.framebuffers n.programs now
 
-  one_more_texture : AreGiven n.buffers (n.textures + 1) n.programs → record t.given { textures = set.insert t.given.textures (n.textures + 1 + 0) } ≡ given_by n2
+  one_more_texture : AreGiven n.buffers (n.textures + 1) n.renderbuffers n.framebuffers n.programs → record t.given { textures = set.insert t.given.textures (n.textures + 1 + 0) } ≡ given_by n2
   one_more_texture now =
       (λ i. record (is i) { textures = set.insert (is i).textures (add-zero (n.textures + 1) i) })
-      ∙ (λ i. record (given_by n) { textures = sym (up_to_next n.textures) i }) ∙ given_as n.buffers (n.textures + 1) n.programs now
+      ∙ (λ i. record (given_by n) { textures = sym (up_to_next n.textures) i }) ∙ given_as n.buffers (n.textures + 1) n.renderbuffers n.framebuffers n.programs now
 
-  one_more_program : AreGiven n.buffers n.textures (n.programs + 1) → record t.given { programs = set.insert t.given.programs (n.programs + 1 + 0) } ≡ given_by n2
+  one_more_renderbuffer : AreGiven n.buffers n.textures (n.renderbuffers + 1) n.framebuffers n.programs → record t.given { renderbuffers = set.insert t.given.renderbuffers (n.renderbuffers + 1 + 0) } ≡ given_by n2
+  one_more_renderbuffer now =
+      (λ i. record (is i) { renderbuffers = set.insert (is i).renderbuffers (add-zero (n.renderbuffers + 1) i) })
+      ∙ (λ i. record (given_by n) { renderbuffers = sym (up_to_next n.renderbuffers) i }) ∙ given_as n.buffers n.textures (n.renderbuffers + 1) n.framebuffers n.programs now
+
+  one_more_framebuffer : AreGiven n.buffers n.textures n.renderbuffers (n.framebuffers + 1) n.programs → record t.given { framebuffers = set.insert t.given.framebuffers (n.framebuffers + 1 + 0) } ≡ given_by n2
+  one_more_framebuffer now =
+      (λ i. record (is i) { framebuffers = set.insert (is i).framebuffers (add-zero (n.framebuffers + 1) i) })
+      ∙ (λ i. record (given_by n) { framebuffers = sym (up_to_next n.framebuffers) i }) ∙ given_as n.buffers n.textures n.renderbuffers (n.framebuffers + 1) n.programs now
+
+  one_more_program : AreGiven n.buffers n.textures n.renderbuffers n.framebuffers (n.programs + 1) → record t.given { programs = set.insert t.given.programs (n.programs + 1 + 0) } ≡ given_by n2
   one_more_program now =
       (λ i. record (is i) { programs = set.insert (is i).programs (add-zero (n.programs + 1) i) })
-      ∙ (λ i. record (given_by n) { programs = sym (up_to_next n.programs) i }) ∙ given_as n.buffers n.textures (n.programs + 1) now
+      ∙ (λ i. record (given_by n) { programs = sym (up_to_next n.programs) i }) ∙ given_as n.buffers n.textures n.renderbuffers n.framebuffers (n.programs + 1) now
 
-  none_more : AreGiven n.buffers n.textures n.programs → t.given ≡ given_by n2
-  none_more now = is ∙ given_as n.buffers n.textures n.programs now
+  none_more : AreGiven n.buffers n.textures n.renderbuffers n.framebuffers n.programs → t.given ≡ given_by n2
+  none_more now = is ∙ given_as n.buffers n.textures n.renderbuffers n.framebuffers n.programs now
+
+  -- the first numbers of each name space are these
+  pub record AreNext (o : Oracle) (b x r f p : ℕ) : Type 0 where
+    pub buffers : o.buffers 0 ≡ b + 1
+    pub textures : o.textures 0 ≡ x + 1
+    pub renderbuffers : o.renderbuffers 0 ≡ r + 1
+    pub framebuffers : o.framebuffers 0 ≡ f + 1
+    pub programs : o.programs 0 ≡ p + 1
 
   -- what the counts of names are, by the answers that are left
-  counts_are : (b x p : ℕ) (o : Oracle) → answers_from loaded n2 ≡ o → o.buffers 0 ≡ b + 1 → o.textures 0 ≡ x + 1 → o.programs 0 ≡ p + 1 → AreGiven b x p
-  counts_are b x p o counted buffers textures programs =
+  counts_are : (b x r f p : ℕ) (o : Oracle) → answers_from loaded n2 ≡ o → AreNext o b x r f p → AreGiven b x r f p
+  counts_are b x r f p o counted next =
       let nb : n2.buffers + 1 + 0 ≡ o.buffers 0 = ap (λ (o : Oracle). o.buffers 0) counted in
       let nx : n2.textures + 1 + 0 ≡ o.textures 0 = ap (λ (o : Oracle). o.textures 0) counted in
+      let nr : n2.renderbuffers + 1 + 0 ≡ o.renderbuffers 0 = ap (λ (o : Oracle). o.renderbuffers 0) counted in
+      let nf : n2.framebuffers + 1 + 0 ≡ o.framebuffers 0 = ap (λ (o : Oracle). o.framebuffers 0) counted in
       let np : n2.programs + 1 + 0 ≡ o.programs 0 = ap (λ (o : Oracle). o.programs 0) counted in
-      (omega arith, omega arith, omega arith)
+      let hb = next.buffers in
+      let hx = next.textures in
+      let hr = next.renderbuffers in
+      let hf = next.framebuffers in
+      let hp = next.programs in
+      (omega arith, omega arith, omega arith, omega arith, omega arith)
 
   -- a call that gives no name leaves the counts as they are
-  no_name : (o : Oracle) → answers_from loaded n2 ≡ o → o.buffers 0 ≡ n.buffers + 1 + 0 → o.textures 0 ≡ n.textures + 1 + 0 → o.programs 0 ≡ n.programs + 1 + 0 → AreGiven n.buffers n.textures n.programs
-  no_name o counted buffers textures programs = counts_are n.buffers n.textures n.programs o counted (omega arith) (omega arith) (omega arith)
+  no_name : (o : Oracle) → answers_from loaded n2 ≡ o → o.buffers 0 ≡ n.buffers + 1 + 0 → o.textures 0 ≡ n.textures + 1 + 0 → o.renderbuffers 0 ≡ n.renderbuffers + 1 + 0
+      → o.framebuffers 0 ≡ n.framebuffers + 1 + 0 → o.programs 0 ≡ n.programs + 1 + 0 → AreGiven n.buffers n.textures n.renderbuffers n.framebuffers n.programs
+  no_name o counted buffers textures renderbuffers framebuffers programs =
+      counts_are n.buffers n.textures n.renderbuffers n.framebuffers n.programs o counted
+      (record { buffers = omega arith; textures = omega arith; renderbuffers = omega arith; framebuffers = omega arith; programs = omega arith })
 
   -- as many names were given as are counted
   pub given_more : (call : DriverCall) → answers_from loaded n2 ≡ behind_call call (answers_from loaded n) → (tables_after t call (answer_to (answers_from loaded n) call)).given ≡ given_by n2
   given_more (Object GenBuffer) counted =
-      one_more_buffer (counts_are (n.buffers + 1) n.textures n.programs (behind_call (Object GenBuffer) (answers_from loaded n)) counted (omega arith) (omega arith) (omega arith))
+      one_more_buffer (counts_are (n.buffers + 1) n.textures n.renderbuffers n.framebuffers n.programs (behind_call (Object GenBuffer) (answers_from loaded n)) counted
+      (record { buffers = omega arith; textures = omega arith; renderbuffers = omega arith; framebuffers = omega arith; programs = omega arith }))
   given_more (Object (BufferData target bytes usage)) counted =
-      stored_gives target bytes usage (stored_at loaded.oom (n.stores + 0)) ∙ none_more (no_name (behind_call (Object (BufferData target bytes usage)) (answers_from loaded n)) counted refl refl refl)
+      stored_gives target bytes usage (stored_at loaded.oom (n.stores + 0)) ∙ none_more (no_name (behind_call (Object (BufferData target bytes usage)) (answers_from loaded n)) counted refl refl refl refl refl)
   given_more (Object GenTexture) counted =
-      one_more_texture (counts_are n.buffers (n.textures + 1) n.programs (behind_call (Object GenTexture) (answers_from loaded n)) counted (omega arith) (omega arith) (omega arith))
-  given_more (Object call) counted = none_more (no_name (behind_call (Object call) (answers_from loaded n)) counted refl refl refl)
+      one_more_texture (counts_are n.buffers (n.textures + 1) n.renderbuffers n.framebuffers n.programs (behind_call (Object GenTexture) (answers_from loaded n)) counted
+      (record { buffers = omega arith; textures = omega arith; renderbuffers = omega arith; framebuffers = omega arith; programs = omega arith }))
+  given_more (Object GenRenderbuffer) counted =
+      one_more_renderbuffer (counts_are n.buffers n.textures (n.renderbuffers + 1) n.framebuffers n.programs (behind_call (Object GenRenderbuffer) (answers_from loaded n)) counted
+      (record { buffers = omega arith; textures = omega arith; renderbuffers = omega arith; framebuffers = omega arith; programs = omega arith }))
+  given_more (Object GenFramebuffer) counted =
+      one_more_framebuffer (counts_are n.buffers n.textures n.renderbuffers (n.framebuffers + 1) n.programs (behind_call (Object GenFramebuffer) (answers_from loaded n)) counted
+      (record { buffers = omega arith; textures = omega arith; renderbuffers = omega arith; framebuffers = omega arith; programs = omega arith }))
+  given_more (Object call) counted = none_more (no_name (behind_call (Object call) (answers_from loaded n)) counted refl refl refl refl refl)
   given_more (Image (TexImage target level format kind width height payload)) counted =
-      image_gives target level _ (stored_at loaded.oom (n.stores + 0))
-      ∙ none_more (no_name (behind_call (Image (TexImage target level format kind width height payload)) (answers_from loaded n)) counted refl refl refl)
-  given_more (Image call) counted = none_more (no_name (behind_call (Image call) (answers_from loaded n)) counted refl refl refl)
+      image_gives target level _ (stored_at loaded.oom (n.stores + 0)) ∙ none_more (no_name (behind_call (Image (TexImage target level format kind width height payload)) (answers_from loaded n)) counted refl refl refl refl refl)
+  given_more (Image (CopyTexImage target level format x y width height)) counted =
+      image_gives target level _ (stored_at loaded.oom (n.stores + 0)) ∙ none_more (no_name (behind_call (Image (CopyTexImage target level format x y width height)) (answers_from loaded n)) counted refl refl refl refl refl)
+  given_more (Image (RenderbufferStorage format width height)) counted =
+      storage_gives _ (stored_at loaded.oom (n.stores + 0)) ∙ none_more (no_name (behind_call (Image (RenderbufferStorage format width height)) (answers_from loaded n)) counted refl refl refl refl refl)
+  given_more (Image call) counted = none_more (no_name (behind_call (Image call) (answers_from loaded n)) counted refl refl refl refl refl)
   given_more (Program (CreateShader kind)) counted =
-      one_more_program (counts_are n.buffers n.textures (n.programs + 1) (behind_call (Program (CreateShader kind)) (answers_from loaded n)) counted (omega arith) (omega arith) (omega arith))
+      one_more_program (counts_are n.buffers n.textures n.renderbuffers n.framebuffers (n.programs + 1) (behind_call (Program (CreateShader kind)) (answers_from loaded n)) counted
+      (record { buffers = omega arith; textures = omega arith; renderbuffers = omega arith; framebuffers = omega arith; programs = omega arith }))
   given_more (Program CreateProgram) counted =
-      one_more_program (counts_are n.buffers n.textures (n.programs + 1) (behind_call (Program CreateProgram) (answers_from loaded n)) counted (omega arith) (omega arith) (omega arith))
-  given_more (Program call) counted = none_more (no_name (behind_call (Program call) (answers_from loaded n)) counted refl refl refl)
-  given_more (Draw call) counted = drawing_gives call ∙ none_more (no_name (answers_from loaded n) (counted ∙ drawing_asks_nothing call (answers_from loaded n)) refl refl refl)
+      one_more_program (counts_are n.buffers n.textures n.renderbuffers n.framebuffers (n.programs + 1) (behind_call (Program CreateProgram) (answers_from loaded n)) counted
+      (record { buffers = omega arith; textures = omega arith; renderbuffers = omega arith; framebuffers = omega arith; programs = omega arith }))
+  given_more (Program call) counted = none_more (no_name (behind_call (Program call) (answers_from loaded n)) counted refl refl refl refl refl)
+  given_more (Draw call) counted = drawing_gives call ∙ none_more (no_name (answers_from loaded n) (counted ∙ drawing_asks_nothing call (answers_from loaded n)) refl refl refl refl refl)
 
 module _ (js now : List DriverEntry) (n n2 : Counts) (loaded : Answers) (call : DriverCall) (answer : Answer) (is : now ≡ js ++ (record { call = call; answer = answer }) ∷ [])
     (counted : answers_from loaded n2 ≡ behind_call call (answers_from loaded n)) (was : IsCounted js n loaded) (next : answer ≡ answer_to (behind_entries js (answers_of loaded)) call) where
@@ -185,9 +244,8 @@ served_more was now e more stop surface loaded losses ooms still legal next = re
   grows = record {
     more = e ∷ [];
     journal = more;
-    answers =
-        ap (told (e ∷ [])) ((λ i. behind_entries (more i) (answers_of (loaded i))) ∙ behind_entries-append was.journal (e ∷ []) (answers_of was.loaded))
-        ∙ told_behind (answers_left was) (e ∷ []) (next, tt);
+    answers = (next, tt);
+    left = (λ i. behind_entries (more i) (answers_of (loaded i))) ∙ behind_entries-append was.journal (e ∷ []) (answers_of was.loaded);
     surface = surface;
     loaded = loaded;
   };
@@ -210,6 +268,7 @@ same_start loaded = λ i. record (answers_of loaded) {
   compile = λ k. compile_in (slice_get loaded.compile (zero-add k i));
   link = λ k. link_in (slice_get loaded.link (zero-add k i));
   validate = λ k. validate_in (slice_get loaded.validate (zero-add k i));
+  pixels = λ k. pixels_in (slice_get loaded.pixels (zero-add k i));
   stored = λ k. stored_at loaded.oom (zero-add k i);
 }
 

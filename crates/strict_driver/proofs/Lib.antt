@@ -2,6 +2,7 @@
 pub mod Entries
 pub mod Tabulated
 pub mod Placing
+pub mod Bound
 pub mod Kept
 pub mod NamesGiven
 pub mod Answered
@@ -10,3 +11,5 @@ pub mod Fair
 pub mod TableSteps
 pub mod Entering
 pub mod Among
+pub mod Halves
+pub mod Fitted

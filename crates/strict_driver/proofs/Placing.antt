@@ -1,5 +1,5 @@
 -- How the names and the objects of a name space change with what a name stands for.
-use Rattle.std.proofs.Common.{◌≡◌, ◌≢◌, ◌<◌, ℕ, Bool, true, false, List, length, get_or, refl, sym, ◌∙◌, ap, Option, None, Some, is_some, IfSome, IfNone, OnSome, cond, ◌||◌, inl, inr, get_or-set_same, get_or-set_other}
+use Rattle.std.proofs.Common.{◌≡◌, ◌≢◌, ◌<◌, ℕ, Bool, true, false, List, length, get_or, refl, sym, ◌∙◌, ap, Option, None, Some, is_some, IsSome, IfSome, IfNone, subst, OnSome, cond, ◌||◌, inl, inr, get_or-set_same, get_or-set_other}
 use Rattle.std.proofs.lemmas.Bool.{cases_lt}
 use Rattle.std.proofs.lemmas.List.{get_or_past}
 use Rattle.std.specs.Ordering.{nat_cmp, eq_by_cmp}
@@ -256,3 +256,14 @@ pub updates-with_value : {T : Type 0} (s : slab.Slab T) (place : ℕ) (v : T) �
 updates-with_value s place v there =
     let within : place < length s.slots = in_range s.slots place there in
     record { changed = rw get_or-set_same refl; others = λ other apart. rw get_or-set_other refl }
+
+-- a name that has an object has one
+module _ {T : Type 0} (st : Standings) (s : slab.Slab T) (placed : IsPlaced st s) (name : ℕ) where
+  there_by : (o : Option Standing) → map.get st name ≡ o → IfSome (name_in name o) (λ x. x.is_object ≡ true → IsSome (map.get (objects_of st s) name))
+  there_by None e = tt
+  there_by (Some Gone) e = tt
+  there_by (Some Unmade) e = λ is. absurd (cc)
+  there_by (Some (Made place)) e = λ is. ap is_some (get_object st s name ∙ ap (object_in s) e) ∙ placed.full name place e
+
+  pub there : (found : Option Name) → found ≡ map.get (names_of st) name → IfSome found (λ x. x.is_object ≡ true → IsSome (map.get (objects_of st s) name))
+  there found is = subst (λ (o : Option Name). IfSome o (λ x. x.is_object ≡ true → IsSome (map.get (objects_of st s) name))) (sym (is ∙ get_name st name)) (there_by (map.get st name) refl)

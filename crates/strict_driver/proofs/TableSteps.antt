@@ -6,7 +6,7 @@ use Rattle.gl_plain.specs.declared.driver_calls.DriverCall.TheVariants.{Object, 
 use Rattle.gl_plain.specs.declared.driver_calls.DrawDriver.{DrawDriver}
 use Rattle.gl_plain.specs.declared.driver_calls.DriverEntry.{DriverEntry}
 use Rattle.gl_plain.specs.declared.driver_calls.ObjectDriver.{ObjectDriver}
-use Rattle.gl_plain.specs.declared.driver_calls.ObjectDriver.TheVariants.{GenBuffer, GenTexture}
+use Rattle.gl_plain.specs.declared.driver_calls.ObjectDriver.TheVariants.{GenBuffer, GenTexture, GenRenderbuffer, GenFramebuffer}
 use Rattle.gl_plain.specs.declared.driver_calls.ImageDriver.{ImageDriver}
 use Rattle.gl_plain.specs.declared.driver_calls.ProgramDriver.{ProgramDriver}
 use Rattle.gl_plain.specs.declared.driver_calls.ProgramDriver.TheVariants.{CreateShader, CreateProgram, CompileShader, LinkProgram, ValidateProgram}
@@ -18,8 +18,9 @@ use Rattle.gl_plain.specs.subjects.Images.{Contents}
 use Rattle.gl_plain.specs.subjects.Programs.{create_shader_effect, create_program_effect}
 use Rattle.strict_driver.specs.declared.tables.Tables.{Tables}
 use Rattle.strict_driver.specs.KeptBuffers.{buffers_of}
-use Rattle.strict_driver.specs.KeptTextures.{textures_of}
+use Rattle.strict_driver.specs.FitImages.{IsFit}
 use Rattle.strict_driver.specs.TableState.{Follow, state_of}
+use Rattle.strict_driver.proofs.Fair.{fits}
 
 module _ (js : List DriverEntry) (kept : Tables) where
   same_allowed : (t t2 : DriverTables) (call : ObjectDriver) → IsObjectAllowed (state_of t js kept) call → IsObjectAllowed (state_of t2 js kept) call
@@ -28,6 +29,8 @@ module _ (js : List DriverEntry) (kept : Tables) where
   same_answer : (t t2 : DriverTables) (k k2 : Contents) (call : ObjectDriver) (answer : Answer) → IsObjectAnswer (record { tables = state_of t js kept; contents = k }) call answer → IsObjectAnswer (record { tables = state_of t2 js kept; contents = k2 }) call answer
   same_answer t t2 k k2 GenBuffer answer h = h
   same_answer t t2 k k2 GenTexture answer h = h
+  same_answer t t2 k k2 GenRenderbuffer answer h = h
+  same_answer t t2 k k2 GenFramebuffer answer h = h
   same_answer t t2 k k2 call answer h = h
 
   -- a call on objects is allowed whatever shaders and programs there are
@@ -67,9 +70,9 @@ module _ (js : List DriverEntry) (kept : Tables) where
   pub program_steps : (t : DriverTables) (call : ProgramDriver) (answer : Answer) → state_of t js kept ≡ t → state_of (after_program t call answer) js kept ≡ after_program t call answer
   program_steps t call answer is = kept_same t call answer ∙ ap (λ (u : DriverTables). after_program u call answer) is
 
-  -- a call on images is allowed with the textures that are kept
-  pub image_allowed : (t : DriverTables) (call : ImageDriver) → state_of t js kept ≡ t → IsImageAllowed t.textures.objects call → IsImageAllowed (textures_of kept.textures).objects call
-  image_allowed t call is allowed = subst (λ (u : DriverTables). IsImageAllowed u.textures.objects call) (sym is) allowed
+  -- what a call on images puts into the tables fits those that are kept
+  pub image_fits : (d : DriverState) (call : ImageDriver) → state_of d.tables js kept ≡ d.tables → IsImageAllowed d call → IsFit kept.renderbuffers.tables call
+  image_fits d call is allowed = subst (λ (u : DriverTables). IsFit u.renderbuffers call) (sym is) (fits d call allowed)
 
   -- where the tables change as a call says, they are those that it leaves
   pub steps : (after : DriverTables → DriverTables) (t : DriverTables) (now : Tables) → state_of t js now ≡ after (state_of t js kept) → state_of t js kept ≡ t → state_of (after t) js now ≡ after t

@@ -5,7 +5,7 @@ use Rattle.gl_plain.specs.declared.driver_calls.DriverCall.{DriverCall}
 use Rattle.gl_plain.specs.declared.driver_calls.DriverCall.TheVariants.{Object, Image, Program, Draw}
 use Rattle.gl_plain.specs.declared.driver_calls.DriverEntry.{DriverEntry}
 use Rattle.gl_plain.specs.declared.driver_calls.ObjectDriver.{ObjectDriver}
-use Rattle.gl_plain.specs.declared.driver_calls.ObjectDriver.TheVariants.{GenBuffer, BindBuffer, BufferData, BufferSubData, DeleteBuffer, GenTexture, BindTexture, DeleteTexture, VertexAttrib4, VertexAttribPointer, SetArray}
+use Rattle.gl_plain.specs.declared.driver_calls.ObjectDriver.TheVariants.{GenBuffer, BindBuffer, BufferData, BufferSubData, DeleteBuffer, GenTexture, BindTexture, DeleteTexture, GenRenderbuffer, BindRenderbuffer, DeleteRenderbuffer, GenFramebuffer, BindFramebuffer, DeleteFramebuffer, FramebufferTexture, FramebufferRenderbuffer, VertexAttrib4, VertexAttribPointer, SetArray}
 use Rattle.gl_plain.specs.subjects.Buffers.{BufferTables}
 use Rattle.strict_driver.specs.declared.buffers.KeptBytes.{KeptBytes}
 use Rattle.strict_driver.specs.declared.buffers.KeptBytes.TheVariants.{InJournal, Own}
@@ -23,6 +23,14 @@ bytes_given (DeleteBuffer name) = []
 bytes_given GenTexture = []
 bytes_given (BindTexture target name) = []
 bytes_given (DeleteTexture name) = []
+bytes_given GenRenderbuffer = []
+bytes_given (BindRenderbuffer name) = []
+bytes_given (DeleteRenderbuffer name) = []
+bytes_given GenFramebuffer = []
+bytes_given (BindFramebuffer name) = []
+bytes_given (DeleteFramebuffer name) = []
+bytes_given (FramebufferTexture attachment textarget name) = []
+bytes_given (FramebufferRenderbuffer attachment name) = []
 bytes_given (VertexAttrib4 index values) = []
 bytes_given (VertexAttribPointer index size kind normalized stride offset) = []
 bytes_given (SetArray index on) = []

@@ -2,21 +2,25 @@
 use Rattle.std.specs.Prelude.{◌≡◌, ◌≤◌, Bool, true, false, Option, None, Some}
 use Rattle.gl_base.specs.declared.limits.TheConstants.{LAST_LEVEL}
 use Rattle.gl_plain.specs.declared.textures.Texture.{Texture}
+use Rattle.gl_plain.specs.subjects.Completeness.{base_level}
 use Rattle.gl_plain.specs.subjects.Levels.{is_image_target, new_texture, with_level}
+use Rattle.gl_plain.specs.subjects.Mipmaps.{halves_of}
 use Rattle.gl_plain.specs.subjects.Textures.{TextureObjects, TextureTables, bound_number, bound_texture, with_parameter, with_texture}
 use Rattle.strict_driver.specs.declared.textures.Change.{Change}
-use Rattle.strict_driver.specs.declared.textures.Change.TheVariants.{Level, Parameter}
+use Rattle.strict_driver.specs.declared.textures.Change.TheVariants.{Level, Parameter, Halves}
 use Rattle.strict_driver.specs.declared.textures.Textures.{Textures}
 
 -- the level of an image is one that textures have
 abbrev pub IsChange : Change → Type 0
 IsChange (Level face level view) = (is_image_target face ≡ true) × (level ≤ LAST_LEVEL)
 IsChange (Parameter pname value) = Unit {0}
+IsChange Halves = Unit {0}
 
 -- the texture behind a change
 abbrev pub changed : Change → Texture → Texture
 changed (Level face level view) x = with_level x face level view
 changed (Parameter pname value) x = with_parameter x pname value
+changed Halves x = halves_of x (base_level x)
 
 -- a default texture is as it opens until it is changed
 abbrev pub default_of : Bool → Option Texture → Texture

@@ -11,6 +11,8 @@ use gl_plain::{DriverCall, ImageDriver, ObjectDriver, ProgramDriver};
 pub struct Counts {
     pub buffers: u64,
     pub textures: u64,
+    pub renderbuffers: u64,
+    pub framebuffers: u64,
     /// The names of shaders and programs.
     pub programs: u64,
     /// What compilations said.
@@ -19,6 +21,8 @@ pub struct Counts {
     pub links: u64,
     /// What validations said.
     pub validates: u64,
+    /// What reads gave.
+    pub reads: u64,
     /// Whether there was room.
     pub stores: u64,
 }
@@ -31,10 +35,13 @@ impl Counts {
         Counts {
             buffers: 0,
             textures: 0,
+            renderbuffers: 0,
+            framebuffers: 0,
             programs: 0,
             compiles: 0,
             links: 0,
             validates: 0,
+            reads: 0,
             stores: 0,
         }
     }
@@ -68,6 +75,14 @@ impl Counts {
                 textures: self.textures.checked_add(1)?,
                 ..self
             }),
+            ObjectDriver::GenRenderbuffer => Some(Counts {
+                renderbuffers: self.renderbuffers.checked_add(1)?,
+                ..self
+            }),
+            ObjectDriver::GenFramebuffer => Some(Counts {
+                framebuffers: self.framebuffers.checked_add(1)?,
+                ..self
+            }),
             ObjectDriver::BufferData { .. } => Some(Counts {
                 stores: self.stores.checked_add(1)?,
                 ..self
@@ -77,6 +92,12 @@ impl Counts {
             | ObjectDriver::DeleteBuffer { .. }
             | ObjectDriver::BindTexture { .. }
             | ObjectDriver::DeleteTexture { .. }
+            | ObjectDriver::BindRenderbuffer { .. }
+            | ObjectDriver::DeleteRenderbuffer { .. }
+            | ObjectDriver::BindFramebuffer { .. }
+            | ObjectDriver::DeleteFramebuffer { .. }
+            | ObjectDriver::FramebufferTexture { .. }
+            | ObjectDriver::FramebufferRenderbuffer { .. }
             | ObjectDriver::VertexAttrib4 { .. }
             | ObjectDriver::VertexAttribPointer { .. }
             | ObjectDriver::SetArray { .. } => Some(self),
@@ -89,13 +110,22 @@ impl Counts {
         ensures none { IfNone result (HasLast self) }
     {
         match call {
-            ImageDriver::TexImage { .. } => Some(Counts {
+            ImageDriver::TexImage { .. }
+            | ImageDriver::CopyTexImage { .. }
+            | ImageDriver::RenderbufferStorage { .. } => Some(Counts {
                 stores: self.stores.checked_add(1)?,
+                ..self
+            }),
+            ImageDriver::ReadPixels { .. } => Some(Counts {
+                reads: self.reads.checked_add(1)?,
                 ..self
             }),
             ImageDriver::TexSubImage { .. }
             | ImageDriver::ZeroLevel { .. }
-            | ImageDriver::TexParameter { .. } => Some(self),
+            | ImageDriver::TexParameter { .. }
+            | ImageDriver::CopyTexSubImage { .. }
+            | ImageDriver::GenerateMipmap { .. }
+            | ImageDriver::ZeroRenderbuffer { .. } => Some(self),
         }
     }
 

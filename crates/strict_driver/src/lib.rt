@@ -3,11 +3,13 @@
 
 mod buffers;
 mod counts;
+mod mipmaps;
 mod name_space;
 mod ordered;
 mod said;
 mod strict;
 mod tables;
+mod targets;
 mod textures;
 
 pub use strict::StrictDriver;

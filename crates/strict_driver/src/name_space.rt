@@ -1,5 +1,5 @@
 //! The names of a name space, in the order in which they were given, and their objects.
-ghost use Rattle.std.specs.Prelude.{◌≡◌, OnOk, OnErr, IfSome, Some, false};
+ghost use Rattle.std.specs.Prelude.{◌≡◌, OnOk, OnErr, IfSome, IsSome, Some, false, true};
 ghost use Rattle.std.specs.FinMap as map;
 ghost use Rattle.std.specs.FinSet as set;
 ghost use Rattle.std.specs.Option.{option_copied_mut};
@@ -86,6 +86,7 @@ impl<T> NameSpace<T> {
     pub fn name(&self, name: u64) -> Option<Name>
         ensures value { result ≡ map.get self.now.names name }
         ensures own { IfSome result (λ found. found.number ≡ name) }
+        ensures there { IfSome result (λ found. found.is_object ≡ true → IsSome (map.get self.now.objects name)) }
     {
         standing_name(name, self.standings.get(name).copied())
     }

@@ -1,12 +1,17 @@
-//! Copies of the answers that a driver was loaded with. Where an answer runs out, or is of another kind, it went well, the log is empty, and
-//! there are no attributes and no uniforms.
-ghost use Rattle.std.specs.Prelude.{◌≡◌, IfOk};
+//! Copies of the answers that a driver was loaded with. Where an answer runs out, or is of another kind, it went well, the log is empty,
+//! there are no attributes and no uniforms, and pixels are zero.
+ghost use Rattle.std.specs.Prelude.{◌≡◌, ◌≤◌, IfOk};
 ghost use Rattle.std.specs.Option.{option_copied};
-ghost use Rattle.gl_plain.specs.Oracle.{compile_in, link_in, validate_in};
+ghost use Rattle.gl_base.specs.declared.limits.TheConstants.{DATA_LIMIT};
+ghost use Rattle.gl_plain.specs.Oracle.{compile_in, link_in, pixels_in, validate_in};
+ghost use Rattle.gl_plain.specs.subjects.Copies as copies;
 ghost use Rattle.gl_plain.specs.subjects.Links.{default_link, default_verdict};
+ghost use Rattle.gl_plain.specs.driver.Answers.{stored_answer};
+ghost use Rattle.gl_driver.specs.Payloads.{payload_given};
 
 use gl_plain::{
-    Answer, Attribute, AttributeList, Bytes, LinkAnswer, Uniform, UniformList, Verdict,
+    Answer, Attribute, AttributeList, Bytes, LinkAnswer, Payload, Stored, Uniform, UniformList,
+    Verdict,
 };
 use std::alloc::{AllocError, Global};
 
@@ -69,6 +74,54 @@ pub fn link_said(alloc: Global, given: Option<&Answer>) -> Result<LinkAnswer, Al
     match given {
         Some(Answer::Link(answer)) => copy_of_link(alloc, answer),
         _ => Ok(default_link(alloc)),
+    }
+}
+
+/// How many bytes the pixels of a rectangle have.
+pub fn read_count(width: u32, height: u32) -> usize
+    requires { copies.read_count width height ≤ DATA_LIMIT }
+    ensures { result ≡ copies.read_count width height }
+{
+    width as usize * height as usize * 4
+}
+
+/// Bytes cut or filled with zeros to this length.
+fn fitted(alloc: Global, count: usize, bytes: &[u8]) -> Result<Bytes, AllocError>
+    ensures { IfOk result (λ pixels. pixels ≡ copies.fitted count bytes.now) }
+{
+    let mut pixels = Bytes::zeros(alloc, count)?;
+    let kept = count.min(bytes.len());
+    pixels.overwrite(0, &bytes[..kept]);
+    Ok(pixels)
+}
+
+/// The pixels of a read by the answer that is given for it, as so many bytes.
+pub fn pixels_said(alloc: Global, count: usize, given: Option<&Answer>) -> Result<Bytes, AllocError>
+    ensures { IfOk result (λ said. said ≡ copies.fitted count (pixels_in (option_copied given.entry))) }
+{
+    match given {
+        Some(Answer::Pixels(bytes)) => fitted(alloc, count, bytes.as_slice()),
+        _ => fitted(alloc, count, &[]),
+    }
+}
+
+/// The answer of a call that asks for room.
+pub fn stored_answer(room: Stored) -> Answer
+    ensures { result ≡ stored_answer room }
+{
+    match room {
+        Stored::Done => Answer::Done,
+        Stored::Oom => Answer::Oom,
+    }
+}
+
+/// A copy of the bytes that a call is given, or none.
+pub fn payload(alloc: Global, bytes: Option<&[u8]>) -> Result<Payload, AllocError>
+    ensures { IfOk result (λ payload. payload ≡ payload_given bytes.entry) }
+{
+    match bytes {
+        Some(bytes) => Ok(Payload::Here(Bytes::from_slice(alloc, bytes)?)),
+        None => Ok(Payload::Absent),
     }
 }
 

@@ -7,21 +7,25 @@ ghost use Rattle.gl_plain.specs.declared.driver_calls.DriverEntry.{DriverEntry};
 ghost use Rattle.gl_plain.specs.State.{opening_driver};
 ghost use Rattle.gl_plain.specs.CommonLines.{are_sound_answers};
 ghost use Rattle.gl_plain.specs.driver.Allowed.{IsAllowed};
-ghost use Rattle.gl_plain.specs.driver.Answers.{AreAnsweredBy, answer_to, told};
+ghost use Rattle.gl_plain.specs.driver.Answers.{AreAnsweredBy, answer_to, stored_answer, told};
 ghost use Rattle.gl_plain.specs.Journal.{IsLegal, state_after};
 ghost use Rattle.gl_plain.specs.Oracle.{answers_of, first};
-ghost use Rattle.gl_driver.specs.History.{Served, Caused, Rose, is_oom};
+ghost use Rattle.gl_plain.specs.subjects.Copies.{fitted};
+ghost use Rattle.gl_driver.specs.History.{Served, Caused, Rose, entered, is_oom};
 ghost use Rattle.strict_driver.specs.Given.{is_lost_at};
+ghost use Rattle.strict_driver.specs.Reads.{reads_in, with_reads};
 ghost use Rattle.strict_driver.specs.StrictHistory.{new_driver, history_of, Continues, answers_left};
 
 mod calls;
 
 use crate::counts::Counts;
-use crate::said::{compile_said, link_said, validation_said};
+use crate::said::{compile_said, link_said, pixels_said, stored_answer, validation_said};
 use crate::tables::Tables;
 use gl_base::limits::DEFAULT_SURFACE;
 use gl_driver::{DriverStop, Stored};
-use gl_plain::{Answer, Answers, DriverCall, DriverEntry, EntryList, LinkAnswer, Verdict, Words};
+use gl_plain::{
+    Answer, Answers, Bytes, DriverCall, DriverEntry, EntryList, LinkAnswer, Verdict, Words,
+};
 use std::alloc::{AllocError, Global};
 use std::marker::Model;
 
@@ -83,6 +87,7 @@ impl StrictDriver {
             compile: answers.compile,
             link: answers.link,
             validate: answers.validate,
+            pixels: answers.pixels,
             oom: Words::from_vec(oom),
             lost: answers.lost,
         };
@@ -91,13 +96,13 @@ impl StrictDriver {
     }
 
     /// The calls so far with their answers, in order. Each met its condition in the state that the earlier ones left, and the answers
-    /// are those that were loaded. There are no more of them than are answered before the driver is lost, and as many where it was.
+    /// are those that were loaded, pixels cut or filled with zeros to the lengths that were asked for. There are no more of them than are answered before the driver is lost, and as many where it was.
     #[tactic(auto, using(crate::proofs::Answered::told_behind))]
     pub fn journal(&self) -> &[DriverEntry]
         ensures exact { result.now ≡ self.now.journal }
         ensures legal { IsLegal (opening_driver self.now.surface) self.now.journal }
         ensures answered { AreAnsweredBy (answers_of self.now.loaded) self.now.journal }
-        ensures answers { told self.now.journal (answers_left self.now) ≡ answers_of self.now.loaded }
+        ensures answers { told self.now.journal (answers_left self.now) ≡ with_reads (reads_in self.now.journal) (answers_of self.now.loaded) }
         ensures within { IfSome self.now.loaded.lost (λ n. length self.now.journal ≤ n) }
         ensures lost { self.now.stop ≡ Some DriverStop.Lost → self.now.loaded.lost ≡ Some (length self.now.journal) }
     {
@@ -157,6 +162,20 @@ impl StrictDriver {
         self.counts.textures.checked_add(1)
     }
 
+    /// The name that is given next in the name space of renderbuffers, or none past the end of its type.
+    fn next_renderbuffer(&self) -> Option<u64>
+        ensures { IfSome result (λ name. name ≡ first (answers_left self.now).renderbuffers) }
+    {
+        self.counts.renderbuffers.checked_add(1)
+    }
+
+    /// The name that is given next in the name space of framebuffers, or none past the end of its type.
+    fn next_framebuffer(&self) -> Option<u64>
+        ensures { IfSome result (λ name. name ≡ first (answers_left self.now).framebuffers) }
+    {
+        self.counts.framebuffers.checked_add(1)
+    }
+
     /// The name that is given next in the name space of shaders and programs, or none past the end of its type.
     fn next_program(&self) -> Option<u64>
         ensures { IfSome result (λ name. name ≡ first (answers_left self.now).programs) }
@@ -188,6 +207,17 @@ impl StrictDriver {
         validation_said(
             self.alloc,
             self.loaded.validate.get(self.counts.validates as usize),
+        )
+    }
+
+    /// A copy of what the next read gives, as so many bytes.
+    fn next_pixels(&self, count: usize) -> Result<Bytes, AllocError>
+        ensures { IfOk result (λ said. said ≡ fitted count (first (answers_left self.now).pixels)) }
+    {
+        pixels_said(
+            self.alloc,
+            count,
+            self.loaded.pixels.get(self.counts.reads as usize),
         )
     }
 
@@ -229,6 +259,41 @@ impl StrictDriver {
         self.ooms = ooms;
         Ok(())
     }
+
+    /// Makes a call that gives this name, which is the next of its name space, or stops where there is none.
+    fn give(&mut self, call: DriverCall, next: Option<u64>) -> Result<u64, DriverStop>
+        requires going { self.old.stop ≡ None }
+        requires within { IfSome self.old.loaded.lost (λ n. length self.old.journal < n) }
+        requires allowed { IsAllowed (history_of self.old).state call }
+        requires next { IfSome next (λ name. Answer.Name name ≡ answer_to (answers_left self.old) call) }
+        ensures served { Served history_of Continues self.old self.new (entered result call Answer.Name) }
+        ensures cause { Caused (history_of self.old) (history_of self.new) result }
+    {
+        let Some(name) = next else {
+            return Err(self.stop());
+        };
+        match self.enter(call, Answer::Name(name)) {
+            Ok(()) => Ok(name),
+            Err(stop) => Err(stop),
+        }
+    }
+
+    /// Makes a call that asks for room, and says whether there is some.
+    fn store(&mut self, call: DriverCall) -> Result<Stored, DriverStop>
+        requires going { self.old.stop ≡ None }
+        requires within { IfSome self.old.loaded.lost (λ n. length self.old.journal < n) }
+        requires allowed { IsAllowed (history_of self.old).state call }
+        requires next { stored_answer (first (answers_left self.old).stored) ≡ answer_to (answers_left self.old) call }
+        ensures served { Served history_of Continues self.old self.new (entered result call stored_answer) }
+        ensures cause { Caused (history_of self.old) (history_of self.new) result }
+        ensures oom { IfOk result (λ s. s ≡ Stored.Oom → Rose self.old.ooms self.new.ooms) }
+    {
+        let room = self.room();
+        match self.enter(call, stored_answer(room)) {
+            Ok(()) => Ok(room),
+            Err(stop) => Err(stop),
+        }
+    }
 }
 
 /// Whether a number is among these, which do not fall.
@@ -254,6 +319,7 @@ fn ooms_after(ooms: u64, answer: &Answer) -> u64
         | Answer::Name(_)
         | Answer::Compile { .. }
         | Answer::Link(_)
-        | Answer::Validate { .. } => ooms,
+        | Answer::Validate { .. }
+        | Answer::Pixels(_) => ooms,
     }
 }

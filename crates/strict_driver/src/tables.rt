@@ -1,46 +1,56 @@
 //! The state tables that a driver keeps. Of shaders and programs, of the fixed state and of the contents of images it keeps nothing, since no
 //! answer depends on them.
-ghost use Rattle.std.specs.Prelude.{List, ◌≡◌, [], ◌∷◌, ◌++◌, IsSome, None, OnOk, false};
+ghost use Rattle.std.specs.Prelude.{ℤ, List, ◌≡◌, [], ◌∷◌, ◌++◌, IsSome, None, OnOk, false};
 ghost use Rattle.gl_plain.specs.declared.driver_calls.Answer.TheVariants as answers;
 ghost use Rattle.gl_plain.specs.declared.driver_calls.DriverCall.TheVariants.{Object};
 ghost use Rattle.gl_plain.specs.declared.driver_calls.DriverEntry.{DriverEntry};
-ghost use Rattle.gl_plain.specs.driver.Allowed.{IsAllowed, IsImageAllowed, IsObjectAllowed};
+ghost use Rattle.gl_plain.specs.driver.Allowed.{IsAllowed, IsObjectAllowed};
 ghost use Rattle.gl_plain.specs.driver.Answers.{IsAnswer, IsNewName, IsObjectAnswer};
-ghost use Rattle.gl_plain.specs.driver.Effect.{after_buffer_data, after_drawing, after_gen, after_image, after_object, after_tex_image, driver_after};
-ghost use Rattle.gl_plain.specs.declared.driver_calls.ObjectDriver.TheVariants.{BufferSubData, DeleteBuffer, VertexAttribPointer};
+ghost use Rattle.gl_plain.specs.driver.Effect.{after_buffer_data, after_drawing, after_gen, after_image, after_object, after_storage, after_tex_image, driver_after};
+ghost use Rattle.gl_plain.specs.declared.driver_calls.ObjectDriver.TheVariants.{BufferSubData, DeleteBuffer, DeleteTexture, DeleteRenderbuffer, FramebufferTexture, FramebufferRenderbuffer, VertexAttribPointer};
 ghost use Rattle.gl_plain.specs.subjects.Attributes.{vertex_attrib_pointer_refusal};
 ghost use Rattle.gl_plain.specs.subjects.Attributes as subject;
 ghost use Rattle.gl_plain.specs.subjects.Buffers.{IsBufferSubDataAllowed, bound};
-ghost use Rattle.gl_plain.specs.subjects.Images.{image_words, opening_contents, tex_image_refusal, view_of};
+ghost use Rattle.gl_base.specs.declared.target_enums.TheConstants.{RENDERBUFFER};
+ghost use Rattle.gl_plain.specs.subjects.Copies.{copy_image, copy_words};
+ghost use Rattle.gl_plain.specs.subjects.Images.{image_words, opening_contents, view_of};
+ghost use Rattle.gl_plain.specs.subjects.Targets.{renderbuffer_storage_refusal, storage_view};
 ghost use Rattle.gl_plain.specs.subjects.Names.{IsLive};
 ghost use Rattle.gl_plain.specs.Spaces as space;
 ghost use Rattle.gl_plain.specs.State.{DriverTables, opening_tables};
 ghost use Rattle.gl_plain.specs.Words.{is_negative};
 ghost use Rattle.gl_plain.specs.Words as words;
 ghost use Rattle.strict_driver.specs.KeptBuffers.{buffers_of, bytes_at};
-ghost use Rattle.strict_driver.specs.KeptTextures.{textures_of};
+ghost use Rattle.strict_driver.specs.FitImages.{IsFit, IsFitImage};
+ghost use Rattle.strict_driver.specs.OnTargets.{IsOnTarget};
 ghost use Rattle.strict_driver.specs.TableState.{Follow, left_by, state_of};
 
 use crate::buffers::Buffers;
+use crate::targets::{Framebuffers, Renderbuffers};
 use crate::textures::Textures;
 use gl_base::GlEnum;
+use gl_base::enums::UNSIGNED_BYTE;
+use gl_base::target_enums::NONE;
 use gl_plain::{
-    Answer, ArraySpec, DrawDriver, DriverCall, DriverEntry, ImageDriver, LevelView, ObjectDriver,
-    VertexAttributes,
+    Answer, ArraySpec, Attached, DrawDriver, DriverCall, DriverEntry, ImageDriver, LevelView,
+    ObjectDriver, VertexAttributes,
 };
 use std::alloc::{AllocError, Global};
 
-/// The state tables that a driver keeps: the sides of the default framebuffer, the buffers, the textures, and the vertex attributes.
+/// The state tables that a driver keeps: the sides of the default framebuffer, the buffers, the textures, the renderbuffers, the framebuffers,
+/// and the vertex attributes.
 #[derive(Drop)]
 pub struct Tables {
     surface: (u32, u32),
     buffers: Buffers,
     textures: Textures,
+    renderbuffers: Renderbuffers,
+    framebuffers: Framebuffers,
     attributes: VertexAttributes,
 }
 
 /// A number that is not negative.
-fn natural(number: i32) -> u32
+pub fn natural(number: i32) -> u32
     requires { is_negative number ≡ false }
     ensures { result ≡ words.natural number }
 {
@@ -57,6 +67,8 @@ impl Tables {
             surface,
             buffers: Buffers::new(alloc),
             textures: Textures::new(alloc),
+            renderbuffers: Renderbuffers::new(alloc),
+            framebuffers: Framebuffers::new(alloc),
             attributes: VertexAttributes::new(),
         }
     }
@@ -137,7 +149,15 @@ impl Tables {
             ObjectDriver::DeleteBuffer { name } => self.delete(*name),
             ObjectDriver::GenTexture => self.give_texture(answer)?,
             ObjectDriver::BindTexture { target, name } => self.textures.bind(*target, *name)?,
-            ObjectDriver::DeleteTexture { name } => self.textures.delete(*name),
+            ObjectDriver::DeleteTexture { name } => self.delete_texture(*name),
+            ObjectDriver::GenRenderbuffer
+            | ObjectDriver::BindRenderbuffer { .. }
+            | ObjectDriver::DeleteRenderbuffer { .. }
+            | ObjectDriver::GenFramebuffer
+            | ObjectDriver::BindFramebuffer { .. }
+            | ObjectDriver::DeleteFramebuffer { .. }
+            | ObjectDriver::FramebufferTexture { .. }
+            | ObjectDriver::FramebufferRenderbuffer { .. } => self.apply_target(call, answer)?,
             ObjectDriver::VertexAttrib4 { index, values } => {
                 self.attributes.set_constant(*index, *values);
             }
@@ -154,9 +174,37 @@ impl Tables {
         Ok(())
     }
 
+    /// Changes the tables as a call on renderbuffers or framebuffers does.
+    fn apply_target(&mut self, call: &ObjectDriver, answer: &Answer) -> Result<(), AllocError>
+        requires target { IsOnTarget call.now }
+        requires allowed { IsObjectAllowed (state_of (opening_tables self.old.surface) [] self.old) call.now }
+        requires answered { IsObjectAnswer (record { tables = state_of (opening_tables self.old.surface) [] self.old; contents = opening_contents }) call.now answer.now }
+        ensures ok { OnOk result ((t : DriverTables) (js : List DriverEntry) → state_of t js self.new ≡ after_object (state_of t js self.old) call.now answer.now) }
+        ensures surface { self.new.surface ≡ self.old.surface }
+    {
+        match call {
+            ObjectDriver::GenRenderbuffer => self.give_renderbuffer(answer)?,
+            ObjectDriver::BindRenderbuffer { name } => self.renderbuffers.bind(*name)?,
+            ObjectDriver::DeleteRenderbuffer { name } => self.delete_renderbuffer(*name),
+            ObjectDriver::GenFramebuffer => self.give_framebuffer(answer)?,
+            ObjectDriver::BindFramebuffer { name } => self.framebuffers.bind(*name)?,
+            ObjectDriver::DeleteFramebuffer { name } => self.framebuffers.delete(*name),
+            ObjectDriver::FramebufferTexture {
+                attachment,
+                textarget,
+                name,
+            } => self.attach_texture(*attachment, *textarget, *name),
+            ObjectDriver::FramebufferRenderbuffer { attachment, name } => {
+                self.attach_renderbuffer(*attachment, *name);
+            }
+            _ => {}
+        }
+        Ok(())
+    }
+
     /// Changes the tables as a call on images does.
     fn apply_image(&mut self, call: &ImageDriver, answer: &Answer) -> Result<(), AllocError>
-        requires { IsImageAllowed (textures_of self.old.textures).objects call.now }
+        requires { IsFit self.old.renderbuffers.tables call.now }
         ensures ok { OnOk result ((t : DriverTables) (js : List DriverEntry) → state_of t js self.new ≡ after_image (state_of t js self.old) call.now answer.now) }
         ensures surface { self.new.surface ≡ self.old.surface }
     {
@@ -170,12 +218,33 @@ impl Tables {
                 height,
                 ..
             } => self.put_image(*target, *level, *format, *kind, *width, *height, answer),
-            ImageDriver::TexSubImage { .. } | ImageDriver::ZeroLevel { .. } => Ok(()),
+            ImageDriver::CopyTexImage {
+                target,
+                level,
+                format,
+                width,
+                height,
+                ..
+            } => self.copy_image(*target, *level, *format, *width, *height, answer),
             ImageDriver::TexParameter {
                 target,
                 pname,
                 value,
             } => self.textures.set_parameter(*target, *pname, *value),
+            ImageDriver::GenerateMipmap { target } => self.textures.put_halves(*target),
+            ImageDriver::RenderbufferStorage {
+                format,
+                width,
+                height,
+            } => {
+                self.put_storage(*format, *width, *height, answer);
+                Ok(())
+            }
+            ImageDriver::TexSubImage { .. }
+            | ImageDriver::ZeroLevel { .. }
+            | ImageDriver::CopyTexSubImage { .. }
+            | ImageDriver::ZeroRenderbuffer { .. }
+            | ImageDriver::ReadPixels { .. } => Ok(()),
         }
     }
 
@@ -204,7 +273,7 @@ impl Tables {
         height: i32,
         answer: &Answer,
     ) -> Result<(), AllocError>
-        requires { tex_image_refusal (image_words target level format kind width height) ≡ None }
+        requires { IsFitImage target level width height }
         ensures ok { OnOk result ((t : DriverTables) (js : List DriverEntry) → state_of t js self.new ≡ after_tex_image (state_of t js self.old) target level (view_of (image_words target level format kind width height)) answer.now) }
         ensures surface { self.new.surface ≡ self.old.surface }
     {
@@ -219,6 +288,39 @@ impl Tables {
                 self.textures.put_level(target, natural(level), view)
             }
             _ => Ok(()),
+        }
+    }
+
+    /// Puts an image that was copied at a level of what the target binds, where there was room for it.
+    fn copy_image(
+        &mut self,
+        target: GlEnum,
+        level: i32,
+        format: GlEnum,
+        width: i32,
+        height: i32,
+        answer: &Answer,
+    ) -> Result<(), AllocError>
+        requires { IsFitImage target level width height }
+        ensures ok { OnOk result ((t : DriverTables) (js : List DriverEntry) (x y : ℤ) → state_of t js self.new ≡ after_tex_image (state_of t js self.old) target level (view_of (copy_image (copy_words target level format x y width height))) answer.now) }
+        ensures surface { self.new.surface ≡ self.old.surface }
+    {
+        self.put_image(target, level, format, UNSIGNED_BYTE, width, height, answer)
+    }
+
+    /// Gives the renderbuffer that is bound an image, where there was room for it.
+    fn put_storage(&mut self, format: GlEnum, width: i32, height: i32, answer: &Answer)
+        requires { renderbuffer_storage_refusal self.old.renderbuffers.tables RENDERBUFFER format width height ≡ None }
+        ensures state { (t : DriverTables) (js : List DriverEntry) → state_of t js self.new ≡ after_storage (state_of t js self.old) (storage_view format width height) answer.now }
+        ensures surface { self.new.surface ≡ self.old.surface }
+    {
+        if let Answer::Done = answer {
+            self.renderbuffers.put_image(LevelView {
+                width: natural(width),
+                height: natural(height),
+                format,
+                kind: NONE,
+            });
         }
     }
 
@@ -300,5 +402,83 @@ impl Tables {
             Answer::Name(name) => self.textures.give(*name),
             _ => Ok(()),
         }
+    }
+    /// Deletes a live texture, which is detached from the framebuffer that is bound.
+    fn delete_texture(&mut self, name: u64)
+        requires { IsLive self.old.textures.names.names name }
+        ensures state { (t : DriverTables) (js : List DriverEntry) → state_of t js self.new ≡ after_object (state_of t js self.old) (DeleteTexture name) answers.Done }
+        ensures surface { self.new.surface ≡ self.old.surface }
+    {
+        if let Some(found) = self.textures.name(name) {
+            self.framebuffers.detach(true, found.number);
+        }
+        self.textures.delete(name);
+    }
+
+    /// Gives a new name to a renderbuffer.
+    fn give_renderbuffer(&mut self, answer: &Answer) -> Result<(), AllocError>
+        requires { IsNewName self.old.renderbuffers.given answer.now }
+        ensures ok { OnOk result ((t : DriverTables) (js : List DriverEntry) → state_of t js self.new ≡ after_gen space.Renderbuffers (state_of t js self.old) answer.now) }
+        ensures surface { self.new.surface ≡ self.old.surface }
+    {
+        match answer {
+            Answer::Name(name) => self.renderbuffers.give(*name),
+            _ => Ok(()),
+        }
+    }
+
+    /// Deletes a live renderbuffer, which is detached from the framebuffer that is bound.
+    fn delete_renderbuffer(&mut self, name: u64)
+        requires { IsLive self.old.renderbuffers.tables.names name }
+        ensures state { (t : DriverTables) (js : List DriverEntry) → state_of t js self.new ≡ after_object (state_of t js self.old) (DeleteRenderbuffer name) answers.Done }
+        ensures surface { self.new.surface ≡ self.old.surface }
+    {
+        if let Some(found) = self.renderbuffers.name(name) {
+            self.framebuffers.detach(false, found.number);
+        }
+        self.renderbuffers.delete(name);
+    }
+
+    /// Gives a new name to a framebuffer.
+    fn give_framebuffer(&mut self, answer: &Answer) -> Result<(), AllocError>
+        requires { IsNewName self.old.framebuffers.names.given answer.now }
+        ensures ok { OnOk result ((t : DriverTables) (js : List DriverEntry) → state_of t js self.new ≡ after_gen space.Framebuffers (state_of t js self.old) answer.now) }
+        ensures surface { self.new.surface ≡ self.old.surface }
+    {
+        match answer {
+            Answer::Name(name) => self.framebuffers.give(*name),
+            _ => Ok(()),
+        }
+    }
+
+    /// Attaches a texture to the framebuffer that is bound, or nothing by 0.
+    fn attach_texture(&mut self, attachment: GlEnum, textarget: GlEnum, name: u64)
+        ensures state { (t : DriverTables) (js : List DriverEntry) → state_of t js self.new ≡ after_object (state_of t js self.old) (FramebufferTexture attachment textarget name) answers.Done }
+        ensures surface { self.new.surface ≡ self.old.surface }
+    {
+        let image = match self.textures.name(name) {
+            None => Attached::Nothing,
+            Some(found) => Attached::Texture {
+                object: found.number,
+                name: 0,
+                face: textarget,
+            },
+        };
+        self.framebuffers.attach(attachment, image);
+    }
+
+    /// Attaches a renderbuffer to the framebuffer that is bound, or nothing by 0.
+    fn attach_renderbuffer(&mut self, attachment: GlEnum, name: u64)
+        ensures state { (t : DriverTables) (js : List DriverEntry) → state_of t js self.new ≡ after_object (state_of t js self.old) (FramebufferRenderbuffer attachment name) answers.Done }
+        ensures surface { self.new.surface ≡ self.old.surface }
+    {
+        let image = match self.renderbuffers.name(name) {
+            None => Attached::Nothing,
+            Some(found) => Attached::Renderbuffer {
+                object: found.number,
+                name: 0,
+            },
+        };
+        self.framebuffers.attach(attachment, image);
     }
 }

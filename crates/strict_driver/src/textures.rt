@@ -1,16 +1,19 @@
 //! The textures of a driver, without pixels: their names, their levels and parameters, the default textures, and the units (OpenGL ES 2.0.25,
 //! section 3.7).
 ghost use Rattle.std.specs.Prelude.{◌≡◌, OnOk, OnErr, true, false};
+ghost use Rattle.std.specs.FinMap as map;
 ghost use Rattle.std.specs.FinSet as set;
 ghost use Rattle.gl_plain.specs.subjects.Levels as levels;
 ghost use Rattle.gl_plain.specs.subjects.Names.{IsLive, named};
 ghost use Rattle.gl_plain.specs.subjects.Textures.{active_texture_effect, bind_texture_effect, binding, default_texture, delete_textures_effect, no_textures, tex_parameter_effect, with_default};
 ghost use Rattle.gl_plain.specs.subjects.Images.{tex_image_effect};
+ghost use Rattle.gl_plain.specs.subjects.Mipmaps.{generate_mipmap_effect};
 ghost use Rattle.strict_driver.specs.KeptTextures.{IsChange, bound_changed, changed, default_of, textures_of};
 
+use crate::mipmaps::put_all_halves;
 use crate::name_space::NameSpace;
 use gl_base::GlEnum;
-use gl_plain::{LevelView, Texture, TextureUnits, is_cube_face, is_cube_target};
+use gl_plain::{LevelView, Name, Texture, TextureUnits, is_cube_face, is_cube_target};
 use std::alloc::{AllocError, Global};
 
 /// A change of a texture.
@@ -27,6 +30,8 @@ pub enum Change {
         pname: GlEnum,
         value: GlEnum,
     },
+    /// Each face has the halves of level 0.
+    Halves,
 }
 
 impl Change {
@@ -38,6 +43,7 @@ impl Change {
         match self {
             Change::Level { face, level, view } => texture.set_level(face, level, view),
             Change::Parameter { pname, value } => texture.set_parameter(pname, value),
+            Change::Halves => put_all_halves(texture),
         }
     }
 }
@@ -85,6 +91,13 @@ impl Textures {
             cube: None,
             units: TextureUnits::new(),
         }
+    }
+
+    /// What is kept of a name in use.
+    pub fn name(&self, name: u64) -> Option<Name>
+        ensures { result ≡ map.get self.now.names.names name }
+    {
+        self.names.name(name)
     }
 
     /// Gives a name that was never given before. Without memory for it all is as before.
@@ -154,6 +167,14 @@ impl Textures {
         ensures given { self.new.names.given ≡ self.old.names.given }
     {
         self.change(is_cube_target(target), Change::Parameter { pname, value })
+    }
+
+    /// Gives the texture that the active unit binds the halves of its level 0.
+    pub fn put_halves(&mut self, target: GlEnum) -> Result<(), AllocError>
+        ensures ok { OnOk result (textures_of self.new ≡ record (textures_of self.old) { objects = generate_mipmap_effect (textures_of self.old).objects target }) }
+        ensures given { self.new.names.given ≡ self.old.names.given }
+    {
+        self.change(is_cube_target(target), Change::Halves)
     }
 
     /// Makes a change of the texture that the active unit binds.

@@ -1,16 +1,13 @@
 //! The calls of the strict driver: whether each may be made, its answer, and its entry.
-ghost use Rattle.std.specs.Prelude.{◌≡◌, IfOk};
-ghost use Rattle.gl_plain.specs.driver.Answers.{stored_answer};
-ghost use Rattle.gl_driver.specs.Payloads.{payload_given};
-
 use super::StrictDriver;
+use crate::said::{payload, read_count};
+use crate::tables::natural;
 use gl_base::{GlEnum, Rect};
 use gl_driver::{Driver, DriverStop, Stored};
 use gl_plain::{
-    Answer, Bytes, DrawDriver, DriverCall, ImageDriver, ImagePlace, LinkAnswer, ObjectDriver,
-    PartWords, Payload, ProgramDriver, Verdict, Words,
+    Answer, Bytes, CopyPartWords, DrawDriver, DriverCall, ImageDriver, ImagePlace, LinkAnswer,
+    ObjectDriver, PartWords, ProgramDriver, Verdict, Words,
 };
-use std::alloc::{AllocError, Global};
 
 impl Driver for StrictDriver {
     ghost use Rattle.strict_driver.specs.StrictHistory.{history_of, Continues, continues_itself, continues_further};
@@ -21,16 +18,8 @@ impl Driver for StrictDriver {
 
     fn gen_buffer(&mut self) -> Result<u64, DriverStop> {
         self.ready()?;
-        let Some(name) = self.next_buffer() else {
-            return Err(self.stop());
-        };
-        match self.enter(
-            DriverCall::Object(ObjectDriver::GenBuffer),
-            Answer::Name(name),
-        ) {
-            Ok(()) => Ok(name),
-            Err(stop) => Err(stop),
-        }
+        let next = self.next_buffer();
+        self.give(DriverCall::Object(ObjectDriver::GenBuffer), next)
     }
 
     fn bind_buffer(&mut self, target: GlEnum, name: u64) -> Result<(), DriverStop> {
@@ -49,16 +38,12 @@ impl Driver for StrictDriver {
         let Ok(bytes) = Bytes::from_slice(self.alloc, bytes) else {
             return Err(self.stop());
         };
-        let room = self.room();
         let call = ObjectDriver::BufferData {
             target,
             bytes,
             usage,
         };
-        match self.enter(DriverCall::Object(call), stored_answer(room)) {
-            Ok(()) => Ok(room),
-            Err(stop) => Err(stop),
-        }
+        self.store(DriverCall::Object(call))
     }
 
     fn buffer_sub_data(
@@ -87,16 +72,8 @@ impl Driver for StrictDriver {
 
     fn gen_texture(&mut self) -> Result<u64, DriverStop> {
         self.ready()?;
-        let Some(name) = self.next_texture() else {
-            return Err(self.stop());
-        };
-        match self.enter(
-            DriverCall::Object(ObjectDriver::GenTexture),
-            Answer::Name(name),
-        ) {
-            Ok(()) => Ok(name),
-            Err(stop) => Err(stop),
-        }
+        let next = self.next_texture();
+        self.give(DriverCall::Object(ObjectDriver::GenTexture), next)
     }
 
     fn bind_texture(&mut self, target: GlEnum, name: u64) -> Result<(), DriverStop> {
@@ -108,6 +85,67 @@ impl Driver for StrictDriver {
     fn delete_texture(&mut self, name: u64) -> Result<(), DriverStop> {
         self.ready()?;
         let call = ObjectDriver::DeleteTexture { name };
+        self.enter(DriverCall::Object(call), Answer::Done)
+    }
+
+    fn gen_renderbuffer(&mut self) -> Result<u64, DriverStop> {
+        self.ready()?;
+        let next = self.next_renderbuffer();
+        self.give(DriverCall::Object(ObjectDriver::GenRenderbuffer), next)
+    }
+
+    fn bind_renderbuffer(&mut self, name: u64) -> Result<(), DriverStop> {
+        self.ready()?;
+        let call = ObjectDriver::BindRenderbuffer { name };
+        self.enter(DriverCall::Object(call), Answer::Done)
+    }
+
+    fn delete_renderbuffer(&mut self, name: u64) -> Result<(), DriverStop> {
+        self.ready()?;
+        let call = ObjectDriver::DeleteRenderbuffer { name };
+        self.enter(DriverCall::Object(call), Answer::Done)
+    }
+
+    fn gen_framebuffer(&mut self) -> Result<u64, DriverStop> {
+        self.ready()?;
+        let next = self.next_framebuffer();
+        self.give(DriverCall::Object(ObjectDriver::GenFramebuffer), next)
+    }
+
+    fn bind_framebuffer(&mut self, name: u64) -> Result<(), DriverStop> {
+        self.ready()?;
+        let call = ObjectDriver::BindFramebuffer { name };
+        self.enter(DriverCall::Object(call), Answer::Done)
+    }
+
+    fn delete_framebuffer(&mut self, name: u64) -> Result<(), DriverStop> {
+        self.ready()?;
+        let call = ObjectDriver::DeleteFramebuffer { name };
+        self.enter(DriverCall::Object(call), Answer::Done)
+    }
+
+    fn framebuffer_texture(
+        &mut self,
+        attachment: GlEnum,
+        textarget: GlEnum,
+        name: u64,
+    ) -> Result<(), DriverStop> {
+        self.ready()?;
+        let call = ObjectDriver::FramebufferTexture {
+            attachment,
+            textarget,
+            name,
+        };
+        self.enter(DriverCall::Object(call), Answer::Done)
+    }
+
+    fn framebuffer_renderbuffer(
+        &mut self,
+        attachment: GlEnum,
+        name: u64,
+    ) -> Result<(), DriverStop> {
+        self.ready()?;
+        let call = ObjectDriver::FramebufferRenderbuffer { attachment, name };
         self.enter(DriverCall::Object(call), Answer::Done)
     }
 
@@ -155,10 +193,9 @@ impl Driver for StrictDriver {
         bytes: Option<&[u8]>,
     ) -> Result<Stored, DriverStop> {
         self.ready()?;
-        let Ok(payload) = copied(self.alloc, bytes) else {
+        let Ok(payload) = payload(self.alloc, bytes) else {
             return Err(self.stop());
         };
-        let room = self.room();
         let call = ImageDriver::TexImage {
             target,
             level,
@@ -168,10 +205,7 @@ impl Driver for StrictDriver {
             height,
             payload,
         };
-        match self.enter(DriverCall::Image(call), stored_answer(room)) {
-            Ok(()) => Ok(room),
-            Err(stop) => Err(stop),
-        }
+        self.store(DriverCall::Image(call))
     }
 
     fn tex_sub_image(
@@ -245,28 +279,120 @@ impl Driver for StrictDriver {
         self.enter(DriverCall::Image(call), Answer::Done)
     }
 
-    fn create_shader(&mut self, kind: GlEnum) -> Result<u64, DriverStop> {
+    fn copy_tex_image(
+        &mut self,
+        target: GlEnum,
+        level: i32,
+        format: GlEnum,
+        x: i32,
+        y: i32,
+        width: i32,
+        height: i32,
+    ) -> Result<Stored, DriverStop> {
         self.ready()?;
-        let Some(name) = self.next_program() else {
+        let call = ImageDriver::CopyTexImage {
+            target,
+            level,
+            format,
+            x,
+            y,
+            width,
+            height,
+        };
+        self.store(DriverCall::Image(call))
+    }
+
+    fn copy_tex_sub_image(
+        &mut self,
+        target: GlEnum,
+        level: i32,
+        xoffset: i32,
+        yoffset: i32,
+        x: i32,
+        y: i32,
+        width: i32,
+        height: i32,
+    ) -> Result<(), DriverStop> {
+        self.ready()?;
+        let copy = CopyPartWords {
+            target,
+            level,
+            xoffset,
+            yoffset,
+            x,
+            y,
+            width,
+            height,
+        };
+        let call = ImageDriver::CopyTexSubImage { copy };
+        self.enter(DriverCall::Image(call), Answer::Done)
+    }
+
+    fn generate_mipmap(&mut self, target: GlEnum) -> Result<(), DriverStop> {
+        self.ready()?;
+        let call = ImageDriver::GenerateMipmap { target };
+        self.enter(DriverCall::Image(call), Answer::Done)
+    }
+
+    fn renderbuffer_storage(
+        &mut self,
+        format: GlEnum,
+        width: i32,
+        height: i32,
+    ) -> Result<Stored, DriverStop> {
+        self.ready()?;
+        let call = ImageDriver::RenderbufferStorage {
+            format,
+            width,
+            height,
+        };
+        self.store(DriverCall::Image(call))
+    }
+
+    fn zero_renderbuffer(&mut self, name: u64) -> Result<(), DriverStop> {
+        self.ready()?;
+        let call = ImageDriver::ZeroRenderbuffer { name };
+        self.enter(DriverCall::Image(call), Answer::Done)
+    }
+
+    fn read_pixels(
+        &mut self,
+        x: i32,
+        y: i32,
+        width: i32,
+        height: i32,
+    ) -> Result<Bytes, DriverStop> {
+        self.ready()?;
+        let count = read_count(natural(width), natural(height));
+        let Ok(pixels) = self.next_pixels(count) else {
             return Err(self.stop());
         };
-        let call = ProgramDriver::CreateShader { kind };
-        match self.enter(DriverCall::Program(call), Answer::Name(name)) {
-            Ok(()) => Ok(name),
+        let Ok(said) = self.next_pixels(count) else {
+            return Err(self.stop());
+        };
+        let call = ImageDriver::ReadPixels {
+            x,
+            y,
+            width,
+            height,
+        };
+        match self.enter(DriverCall::Image(call), Answer::Pixels(pixels)) {
+            Ok(()) => Ok(said),
             Err(stop) => Err(stop),
         }
     }
 
+    fn create_shader(&mut self, kind: GlEnum) -> Result<u64, DriverStop> {
+        self.ready()?;
+        let next = self.next_program();
+        let call = ProgramDriver::CreateShader { kind };
+        self.give(DriverCall::Program(call), next)
+    }
+
     fn create_program(&mut self) -> Result<u64, DriverStop> {
         self.ready()?;
-        let Some(name) = self.next_program() else {
-            return Err(self.stop());
-        };
-        let call = ProgramDriver::CreateProgram;
-        match self.enter(DriverCall::Program(call), Answer::Name(name)) {
-            Ok(()) => Ok(name),
-            Err(stop) => Err(stop),
-        }
+        let next = self.next_program();
+        self.give(DriverCall::Program(ProgramDriver::CreateProgram), next)
     }
 
     fn delete_shader(&mut self, name: u64) -> Result<(), DriverStop> {
@@ -451,24 +577,4 @@ impl Driver for StrictDriver {
     ghost grown_itself = { continues_itself };
 
     ghost grown_further = { continues_further };
-}
-
-/// The answer of a call that asks for room.
-fn stored_answer(room: Stored) -> Answer
-    ensures { result ≡ stored_answer room }
-{
-    match room {
-        Stored::Done => Answer::Done,
-        Stored::Oom => Answer::Oom,
-    }
-}
-
-/// A copy of the bytes that a call is given, or none.
-fn copied(alloc: Global, bytes: Option<&[u8]>) -> Result<Payload, AllocError>
-    ensures { IfOk result (λ payload. payload ≡ payload_given bytes.entry) }
-{
-    match bytes {
-        Some(bytes) => Ok(Payload::Here(Bytes::from_slice(alloc, bytes)?)),
-        None => Ok(Payload::Absent),
-    }
 }

@@ -3,7 +3,7 @@ use Rattle.gl_plain.specs.State.{opening_tables}
 use Rattle.gl_plain.specs.subjects.Images.{opening_contents}
 use Rattle.strict_driver.specs.TableState.{left_by}
 use Rattle.strict_driver.proofs.Kept.{where_ok}
-use Rattle.strict_driver.proofs.TableSteps.{at_once, settled, allowed_alone, answered_alone, image_allowed, object_follows, image_follows, program_follows, drawing_follows}
+use Rattle.strict_driver.proofs.TableSteps.{at_once, settled, allowed_alone, answered_alone, image_fits, object_follows, image_follows, program_follows, drawing_follows}
 use Rattle.strict_driver.proofs.tables.Tables.apply.Goals as goal
 
 pub apply_object-requires-clause-allowed : goal.apply_object-requires-clause-allowed
@@ -30,8 +30,8 @@ returns-in-Program-clause-ok c = rw c.in-Program.is (program_follows (left_by c.
 
 pub apply_image-requires : goal.apply_image-requires
 apply_image-requires c =
-    let t = (left_by c.args.self.now.surface c.args.journal.now).tables in
-    image_allowed c.args.journal.now c.args.self.now t c.in-Image.call (at_once t c.args.journal.now c.args.self.now c.requires.follow) (rw c.in-Image.is at c.requires.allowed)
+    let d = left_by c.args.self.now.surface c.args.journal.now in
+    image_fits c.args.journal.now c.args.self.now d c.in-Image.call (at_once d.tables c.args.journal.now c.args.self.now c.requires.follow) (rw c.in-Image.is at c.requires.allowed)
 
 pub returns-in-Image-clause-ok : goal.returns-in-Image-clause-ok
 returns-in-Image-clause-ok c =

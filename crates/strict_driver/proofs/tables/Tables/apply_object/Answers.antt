@@ -51,3 +51,9 @@ returns-in_ok-give_texture-in-GenTexture-clause-ok c t more =
     let entry : DriverEntry = record { call = Object c.args.call.now; answer = c.args.answer.now } in
     let js : List DriverEntry = c.args.journal.now ++ entry ∷ more in
     c.in_ok-give_texture-in-GenTexture.ensures.ok t js ∙ ap (λ (call : ObjectDriver). after_object (state_of t js c.args.self.now) call c.args.answer.now) (sym c.in-GenTexture.is)
+
+pub returns-in-DeleteTexture-clause-ok : goal.returns-in-DeleteTexture-clause-ok
+returns-in-DeleteTexture-clause-ok c t more = rw c.in-DeleteTexture.is (c.delete_texture.ensures.state t _)
+
+pub returns-in_ok-apply_target-in-GenRenderbuffer-clause-ok : goal.returns-in_ok-apply_target-in-GenRenderbuffer-clause-ok
+returns-in_ok-apply_target-in-GenRenderbuffer-clause-ok c t more = c.in_ok-apply_target-in-GenRenderbuffer.ensures.ok t _

@@ -13,5 +13,5 @@ returns-clause-ok c =
     let offset : c.natural.result ≡ natural c.args.offset = search rules in
     where_ok c.change.result
     (λ (changed : (more : List DriverEntry) → buffers_of (c.args.journal.now ++ more) c.change.new.self ≡ buffer_sub_data_effect (buffers_of (c.args.journal.now ++ more) c.args.self.now.buffers) c.args.target (natural c.args.offset) c.args.bytes.now) t more i.
-    record (state_of t (c.args.journal.now ++ more) c.args.self.now) { buffers = changed more i; given = record t.given { buffers = c.change.ensures.given i; textures = c.args.self.now.textures.names.given } })
+    record (state_of t (c.args.journal.now ++ more) c.args.self.now) { buffers = changed more i; given = record t.given { buffers = c.change.ensures.given i; textures = c.args.self.now.textures.names.given; renderbuffers = c.args.self.now.renderbuffers.given; framebuffers = c.args.self.now.framebuffers.names.given } })
     (rw offset at c.change.ensures.ok)

@@ -4,7 +4,7 @@ use Rattle.counting_driver.specs.Counting.{AreAbove}
 use Rattle.counting_driver.specs.CountingViews.{CountingView}
 use Rattle.counting_driver.specs.CountingHistory.{history_of}
 use Rattle.counting_driver.proofs.Calls.{program_given}
-use Rattle.counting_driver.proofs.driver.CountingDriverDriver.create_program.Goals as goal
+use Rattle.counting_driver.proofs.driver.calls.CountingDriverDriver.create_shader.Goals as goal
 
 pub give-requires-clause-above : goal.give-requires-clause-above
 give-requires-clause-above c =

@@ -4,7 +4,7 @@ use Rattle.counting_driver.specs.Counting.{AreAbove}
 use Rattle.counting_driver.specs.CountingViews.{CountingView}
 use Rattle.counting_driver.specs.CountingHistory.{history_of}
 use Rattle.counting_driver.proofs.Calls.{texture_given}
-use Rattle.counting_driver.proofs.driver.CountingDriverDriver.gen_texture.Goals as goal
+use Rattle.counting_driver.proofs.driver.calls.CountingDriverDriver.gen_texture.Goals as goal
 
 pub give-requires-clause-above : goal.give-requires-clause-above
 give-requires-clause-above c =
