@@ -73,6 +73,15 @@ impl Buckets {
         true
     }
 
+    /// Gives a bucket these bytes in place of its own. It takes no memory.
+    pub fn give(&mut self, bucket: u32, bytes: Bytes)
+        requires bucket { bucket ≤ LAST_BUCKET }
+        requires size { length bytes ≤ DATA_LIMIT }
+        ensures { self.new ≡ with_bucket self.old bucket bytes }
+    {
+        self.buckets[bucket as usize] = bytes;
+    }
+
     /// The bytes of a bucket.
     pub fn read(&self, bucket: u32) -> &[u8]
         requires { bucket ≤ LAST_BUCKET }

@@ -24,9 +24,9 @@ fn tables_end_where_they_do(rt: HostRuntime) {
     assert_eq!(rt; layout(345), None);
     assert_eq!(rt; layout(u32::MAX), None);
     assert!(rt; known(2) && known(5) && !known(6) && !known(255));
-    assert!(rt; known(256) && known(266) && !known(267) && known(269) && !known(270));
-    assert!(rt; !known(279) && known(280) && known(323) && !known(324));
-    assert!(rt; known(325) && known(327) && !known(328));
+    assert!(rt; known(256) && known(267) && known(279) && known(280));
+    assert!(rt; known(323) && known(324) && known(325));
+    assert!(rt; known(327) && !known(328));
 }
 
 #[test]

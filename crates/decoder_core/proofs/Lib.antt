@@ -2,6 +2,8 @@
 pub mod Fronts
 mod Payloads
 mod Executions
+mod Delivered
+mod ReplySizes
 mod CarriedOut
 mod ReadSteps
 pub mod RunsOn

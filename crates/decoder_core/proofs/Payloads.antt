@@ -1,7 +1,7 @@
 -- The bytes beside a command that was read whole are those that its words name.
 use Rattle.std.proofs.Common.{◌≡◌, ℕ, Bool, true, false, not, ◌&&◌, ◌==◌, if◌then◌else◌, List, length, Option, None, Some, refl, sym, ◌∙◌, ap, subst, arith}
 use Rattle.std.proofs.lemmas.Bool.Decides.{nat_tests}
-use Rattle.gl_plain.specs.declared.numbers.TheConstants.{NOOP, SET_TOKEN, GEN_BUFFERS, BIND_BUFFER, BUFFER_DATA, BUFFER_SUB_DATA, DELETE_BUFFERS, VERTEX_ATTRIB_4F, VERTEX_ATTRIB_POINTER, ENABLE_VERTEX_ATTRIB_ARRAY, DISABLE_VERTEX_ATTRIB_ARRAY, SET_BUCKET_SIZE, SET_BUCKET_DATA, GET_BUCKET_START, GET_BUCKET_DATA, CREATE_SHADER, SHADER_SOURCE, COMPILE_SHADER, DELETE_SHADER, CREATE_PROGRAM, ATTACH_SHADER, DETACH_SHADER, BIND_ATTRIB_LOCATION, LINK_PROGRAM, VALIDATE_PROGRAM, USE_PROGRAM, DELETE_PROGRAM, UNIFORM, GEN_TEXTURES, BIND_TEXTURE, DELETE_TEXTURES, TEX_IMAGE_2D, TEX_SUB_IMAGE_2D, TEX_PARAMETERI}
+use Rattle.gl_plain.specs.declared.numbers.TheConstants.{NOOP, SET_TOKEN, GEN_BUFFERS, BIND_BUFFER, BUFFER_DATA, BUFFER_SUB_DATA, DELETE_BUFFERS, VERTEX_ATTRIB_4F, VERTEX_ATTRIB_POINTER, ENABLE_VERTEX_ATTRIB_ARRAY, DISABLE_VERTEX_ATTRIB_ARRAY, SET_BUCKET_SIZE, SET_BUCKET_DATA, GET_BUCKET_START, GET_BUCKET_DATA, CREATE_SHADER, SHADER_SOURCE, COMPILE_SHADER, DELETE_SHADER, CREATE_PROGRAM, ATTACH_SHADER, DETACH_SHADER, BIND_ATTRIB_LOCATION, LINK_PROGRAM, VALIDATE_PROGRAM, USE_PROGRAM, DELETE_PROGRAM, UNIFORM, GEN_TEXTURES, BIND_TEXTURE, DELETE_TEXTURES, GEN_RENDERBUFFERS, BIND_RENDERBUFFER, DELETE_RENDERBUFFERS, GEN_FRAMEBUFFERS, BIND_FRAMEBUFFER, DELETE_FRAMEBUFFERS, FRAMEBUFFER_TEXTURE_2D, FRAMEBUFFER_RENDERBUFFER, TEX_IMAGE_2D, TEX_SUB_IMAGE_2D, COPY_TEX_IMAGE_2D, COPY_TEX_SUB_IMAGE_2D, TEX_PARAMETERI, GENERATE_MIPMAP, RENDERBUFFER_STORAGE}
 use Rattle.gl_plain.specs.declared.commands.Command.{Command}
 use Rattle.gl_plain.specs.declared.commands.Command.TheVariants.{Bucket, Object, Image, Draw, Query}
 use Rattle.gl_plain.specs.declared.commands.BucketCommand.{BucketCommand}
@@ -16,7 +16,7 @@ use Rattle.gl_plain.specs.State.{WireState}
 use Rattle.gl_plain.specs.Wire.{data_words, given_to}
 use Rattle.gl_plain.specs.subjects.Data.{IsData}
 use Rattle.gl_plain.specs.subjects.Buckets.{Buckets, bucket_at, has_bucket, IsBucketData, breaks_bucket_rule, data_given}
-use Rattle.gl_plain.specs.object.Commands.{object_command_in, program_command_in, object_data_words}
+use Rattle.gl_plain.specs.object.Commands.{command_or, object_command_in, program_command_in, target_command_in, object_data_words}
 use Rattle.gl_plain.specs.object.Arguments.{IsDataOf}
 use Rattle.gl_plain.specs.image.Commands.{image_command_in, image_data_words}
 use Rattle.gl_plain.specs.Commands.{bucket_command_in, command_by, command_in, command_of}
@@ -28,6 +28,11 @@ use Rattle.cb_fetch.specs.Readable.{IsReadable}
 chosen : {A : Type 0} (P : A → Type 0) (b : Bool) (x : A) (rest : Option A) → (b ≡ true → P x) → ((y : A) → rest ≡ Some y → P y) → (y : A) → (if b then Some x else rest) ≡ Some y → P y
 chosen P true x rest here there y is = let same : x ≡ y = cc in subst P same (here refl)
 chosen P false x rest here there y is = there y is
+
+-- and what holds of either of two commands holds of the one that is there
+either : (P : ObjectCommand → Type 0) (o rest : Option ObjectCommand) → ((c : ObjectCommand) → o ≡ Some c → P c) → ((c : ObjectCommand) → rest ≡ Some c → P c) → (c : ObjectCommand) → command_or o rest ≡ Some c → P c
+either P (Some x) rest here there c is = here c is
+either P None rest here there c is = there c is
 
 is_number : (number n : ℕ) → (number == n) ≡ true → number ≡ n
 is_number number n e = grind (arith, nat_tests)
@@ -106,6 +111,18 @@ module _ (number : ℕ) (words payload : List ℕ) (long : length payload ≡ da
       (chosen P (number == DELETE_PROGRAM) _ _ (λ e. tt)
       (chosen P (number == UNIFORM) _ None (beside UNIFORM 4 (plan_uniform words)) (λ c is. cc)))))))))))))
 
+  target_data : (c : ObjectCommand) → target_command_in number words ≡ Some c → IsBesideOf (object_data_words c) payload
+  target_data =
+      let P : ObjectCommand → Type 0 = λ c. IsBesideOf (object_data_words c) payload in
+      chosen P (number == GEN_RENDERBUFFERS) _ _ (λ e. tt)
+      (chosen P (number == BIND_RENDERBUFFER) _ _ (λ e. tt)
+      (chosen P (number == DELETE_RENDERBUFFERS) _ _ (λ e. tt)
+      (chosen P (number == GEN_FRAMEBUFFERS) _ _ (λ e. tt)
+      (chosen P (number == BIND_FRAMEBUFFER) _ _ (λ e. tt)
+      (chosen P (number == DELETE_FRAMEBUFFERS) _ _ (λ e. tt)
+      (chosen P (number == FRAMEBUFFER_TEXTURE_2D) _ _ (λ e. tt)
+      (chosen P (number == FRAMEBUFFER_RENDERBUFFER) _ None (λ e. tt) (λ c is. cc))))))))
+
   object_data : (c : ObjectCommand) → object_command_in number words ≡ Some c → IsBesideOf (object_data_words c) payload
   object_data =
       let P : ObjectCommand → Type 0 = λ c. IsBesideOf (object_data_words c) payload in
@@ -120,14 +137,18 @@ module _ (number : ℕ) (words payload : List ℕ) (long : length payload ≡ da
       (chosen P (number == VERTEX_ATTRIB_4F) _ _ (λ e. tt)
       (chosen P (number == VERTEX_ATTRIB_POINTER) _ _ (λ e. tt)
       (chosen P (number == ENABLE_VERTEX_ATTRIB_ARRAY) _ _ (λ e. tt)
-      (chosen P (number == DISABLE_VERTEX_ATTRIB_ARRAY) _ _ (λ e. tt) program_data)))))))))))
+      (chosen P (number == DISABLE_VERTEX_ATTRIB_ARRAY) _ _ (λ e. tt) (either P (target_command_in number words) (program_command_in number words) target_data program_data))))))))))))
 
   image_data : (c : ImageCommand) → image_command_in number words ≡ Some c → IsBesideOf (image_data_words c) payload
   image_data =
       let P : ImageCommand → Type 0 = λ c. IsBesideOf (image_data_words c) payload in
       chosen P (number == TEX_IMAGE_2D) _ _ (beside TEX_IMAGE_2D 8 (plan_tex_image_2d words))
       (chosen P (number == TEX_SUB_IMAGE_2D) _ _ (beside TEX_SUB_IMAGE_2D 8 (plan_tex_sub_image_2d words))
-      (chosen P (number == TEX_PARAMETERI) _ None (λ e. tt) (λ c is. cc)))
+      (chosen P (number == COPY_TEX_IMAGE_2D) _ _ (λ e. tt)
+      (chosen P (number == COPY_TEX_SUB_IMAGE_2D) _ _ (λ e. tt)
+      (chosen P (number == TEX_PARAMETERI) _ _ (λ e. tt)
+      (chosen P (number == GENERATE_MIPMAP) _ _ (λ e. tt)
+      (chosen P (number == RENDERBUFFER_STORAGE) _ None (λ e. tt) (λ c is. cc)))))))
 
   bucket_data : (c : BucketCommand) → bucket_command_in number words ≡ Some c → IsBucketData c payload
   bucket_data =

@@ -60,11 +60,25 @@ module _ (reads : Reads) (sizes : ℕ → Option ℕ) (s : ServiceView) (none : 
       let here : get_in s ≡ s.fetch.get = ap (λ (w : Option Fetched). get_of w s.fetch.get) none in
       ((rw here fault.0, inl (ap (fault_at reads sizes s.fetch.entries s.fetch.put n) here ∙ fault.1)), is ∙ sym here)
 
+-- what has not stopped has no stop
+no_stop : {A : Type 0} {o : Option A} {x : A} → o ≡ None → o ≡ Some x → ⊥
+no_stop none some = let no = sym none ∙ some in absurd (cc)
+
+-- where the second can't be
+by_first : {A B C : Type 0} → (A → C) → (B → ⊥) → A ⊎ B → C
+by_first take refuse (inl a) = take a
+by_first take refuse (inr b) = absurd (refuse b)
+
 module _ (s : ServiceView) (m : MemoryView) (f : FetchView) (m2 : MemoryView) (h : History) (going : s.stop ≡ None) (none : s.waiting ≡ None) (fetching : s.fetch.stop ≡ None) where
+  bad_found : (stop : Stop) → FoundBad s.fetch m f m2 stop → DidFindBad (side s m h) (side (record s { fetch = f; stop = Some (stops.Bad stop) }) m2 h) [] stop
+  bad_found stop found = record { going = going; faulty = inl (none, found); after = refl; same_state = refl; untouched = record { no_calls = refl; same_driver = refl } }
+
+  bad_before : (stop : Stop) → StoppedBefore s.fetch m f m2 (fetch.Bad stop) → ⊥
+  bad_before stop before = no_stop fetching before.stopped
+
   -- the service finds a command malformed where its fetcher does
   pub finds_bad : (stop : Stop) → (FoundBad s.fetch m f m2 stop) ⊎ (StoppedBefore s.fetch m f m2 (fetch.Bad stop)) → DidFindBad (side s m h) (side (record s { fetch = f; stop = Some (stops.Bad stop) }) m2 h) [] stop
-  finds_bad stop (inl found) = record { going = going; faulty = inl (none, found); after = refl; same_state = refl; untouched = record { no_calls = refl; same_driver = refl } }
-  finds_bad stop (inr before) = let no = sym fetching ∙ before.stopped in cc
+  finds_bad stop either = by_first (bad_found stop) (bad_before stop) either
 
   -- the service runs short of memory where its fetcher does
   pub runs_short : (FoundNoMemory s.fetch m f m2) ⊎ (StoppedBefore s.fetch m f m2 fetch.NoMemory) → DidRunShort (side s m h) (side (record s { fetch = f; stop = Some stops.NoMemory }) m2 h) []

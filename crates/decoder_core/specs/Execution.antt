@@ -16,13 +16,15 @@ use Rattle.gl_driver.specs.Performed as performed
 use Rattle.buffer_mgr.specs.Tables.{tables}
 use Rattle.program_mgr.specs.Tables as programs
 use Rattle.texture_mgr.specs.Tables as textures
+use Rattle.target_mgr.specs.Tables as targets
 use Rattle.decoder_core.specs.declared.tables.Tables.{Tables}
 
 -- the state that the service's tables are
 abbrev pub state_of : Tables → WireState
 state_of t = record {
-  es = record { surface = t.surface; buffers = tables t.buffers; textures = textures.tables t.textures; attribs = t.attribs.attributes; programs = programs.tables t.programs; raster = t.raster.words; alignments = t.raster.alignments; errors = t.errors };
+  es = record { surface = t.surface; buffers = tables t.buffers; textures = textures.tables t.textures; renderbuffers = targets.renderbuffers t.targets; framebuffers = targets.framebuffers t.targets; attribs = t.attribs.attributes; programs = programs.tables t.programs; raster = t.raster.words; alignments = t.raster.alignments; errors = t.errors };
   covers = textures.covers t.textures;
+  marks = targets.marks t.targets;
   buckets = t.buckets;
   token = t.token;
 }

@@ -1,8 +1,12 @@
 //! The tables of the service, and the execution of one command by them.
-ghost use Rattle.std.specs.Prelude.{◌≡◌, ℕ, List, IfOk, IfSome, is_none};
+ghost use Rattle.std.specs.Prelude.{◌≡◌, ◌≤◌, ℕ, List, length, false, Some, IfOk, IfSome, OnOk, is_none};
 ghost use Rattle.gl_plain.specs.declared.commands.Command.TheVariants.{Bucket, Query, SetToken};
 ghost use Rattle.gl_plain.specs.declared.commands.BucketCommand.TheVariants as buckets;
-ghost use Rattle.gl_plain.specs.subjects.Buckets.{IsBucketData, breaks_bucket_rule, data_given};
+ghost use Rattle.gl_base.specs.declared.limits.TheConstants.{DATA_LIMIT};
+ghost use Rattle.gl_plain.specs.declared.commands.Fetched as fetched;
+ghost use Rattle.gl_plain.specs.Commands.{command_of};
+ghost use Rattle.gl_plain.specs.subjects.Buckets as buckets_of;
+ghost use Rattle.gl_plain.specs.subjects.Buckets.{IsBucketData, breaks_bucket_rule, data_given, is_no_bucket, reply_bytes, with_reply};
 
 use attrib_mgr::Attribs;
 use bucket_store::Buckets;
@@ -10,6 +14,7 @@ use buffer_mgr::Buffers;
 use decode_draw::execute_draw;
 use decode_images::execute_image;
 use decode_objects::execute_object;
+use decode_query::execute_query;
 use gl_base::limits::{DATA_LIMIT, LAST_BUCKET, LAST_TOKEN};
 use gl_driver::Driver;
 use gl_plain::{
@@ -19,6 +24,7 @@ use gl_plain::{
 use program_mgr::Programs;
 use std::alloc::{AllocError, Global};
 use svc_raster::Raster;
+use target_mgr::Targets;
 use texture_mgr::Textures;
 
 /// The source of data in shared memory.
@@ -34,6 +40,7 @@ pub struct Tables {
     surface: (u32, u32),
     buffers: Buffers,
     textures: Textures,
+    targets: Targets,
     programs: Programs,
     attribs: Attribs,
     raster: Raster,
@@ -68,6 +75,16 @@ fn data_of<'a>(
     Some(bytes)
 }
 
+/// Whether a reply goes into a bucket, and there is none of this number.
+fn names_no_bucket(bucket: Option<u32>) -> bool
+    ensures { result ≡ buckets_of.names_no_bucket bucket }
+{
+    match bucket {
+        Some(bucket) => bucket > LAST_BUCKET,
+        None => false,
+    }
+}
+
 impl Tables {
     ghost use Rattle.gl_plain.specs.State.{opening_wire};
     ghost use Rattle.gl_plain.specs.Agreement.{Agrees};
@@ -83,6 +100,7 @@ impl Tables {
             surface,
             buffers: Buffers::new(alloc),
             textures: Textures::new(alloc)?,
+            targets: Targets::new(alloc),
             programs: Programs::new(alloc),
             attribs: Attribs::new(),
             raster: Raster::new(surface.0, surface.1),
@@ -189,13 +207,44 @@ impl Tables {
         }
     }
 
-    /// A command that asks for state.
-    fn query(&mut self, command: QueryCommand) -> Result<Reply, ExecStop>
-        ensures { (payload : List ℕ) → ActsAlone (Query command) payload (state_of self.old) (state_of self.new) result }
+    /// Gives a bucket the bytes of a reply. A refused command has none.
+    fn deliver(&mut self, bucket: u32, reply: &Reply) -> Result<(), AllocError>
+        requires bucket { is_no_bucket bucket ≡ false }
+        requires size { length (reply_bytes reply.now) ≤ DATA_LIMIT }
+        ensures ok { OnOk result (state_of self.new ≡ record (state_of self.old) { buckets = with_reply (state_of self.old).buckets (Some bucket) reply.now }) }
     {
-        match command {
-            QueryCommand::GetError => Ok(Reply::Error(self.errors.take())),
+        let bytes = match reply {
+            Reply::Bytes(bytes) => Bytes::from_slice(self.alloc, bytes.as_slice())?,
+            Reply::None | Reply::Word(_) | Reply::Names(_) | Reply::Error(_) => {
+                Bytes::new(self.alloc)
+            }
+        };
+        self.buckets.give(bucket, bytes);
+        Ok(())
+    }
+
+    /// A command that asks for state or for pixels. Its reply goes into the bucket that it names, if it names one.
+    fn query<D: Driver>(&mut self, command: QueryCommand, driver: &mut D) -> Result<Reply, ExecStop>
+        requires agrees { Agrees (state_of self.old) (D.history driver.old).state }
+        ensures { (f : fetched.Fetched) → command_of f ≡ Some (Query command) → Performs D.history D.grown f (state_of self.old) driver.old (state_of self.new) driver.new result }
+    {
+        let bucket = Command::Query(command).reply_bucket();
+        if names_no_bucket(bucket) {
+            return Err(ExecStop::Bad(Malformed::InvalidArguments));
         }
+        let reply = execute_query(
+            self.alloc,
+            &mut self.textures,
+            &mut self.targets,
+            &self.raster,
+            &mut self.errors,
+            command,
+            driver,
+        )?;
+        if let Some(bucket) = bucket {
+            self.deliver(bucket, &reply)?;
+        }
+        Ok(reply)
     }
 
     /// Executes a command as it was read.
@@ -212,7 +261,7 @@ impl Tables {
             Some(Command::Noop) => Ok(Reply::None),
             Some(Command::SetToken { token }) => self.set_token(token),
             Some(Command::Bucket(bucket)) => self.bucket(bucket, command.payload.as_slice()),
-            Some(Command::Query(query)) => self.query(query),
+            Some(Command::Query(query)) => self.query(query, driver),
             Some(Command::Object(object)) => {
                 let beside = command.payload.as_slice();
                 let Some(payload) = data_of(&self.buckets, object.data_words(), beside) else {
@@ -222,6 +271,7 @@ impl Tables {
                     self.alloc,
                     &mut self.buffers,
                     &mut self.textures,
+                    &mut self.targets,
                     &mut self.programs,
                     &mut self.attribs,
                     &mut self.errors,
@@ -238,6 +288,7 @@ impl Tables {
                 execute_image(
                     self.alloc,
                     &mut self.textures,
+                    &mut self.targets,
                     &self.raster,
                     &mut self.errors,
                     payload,
@@ -248,6 +299,7 @@ impl Tables {
             Some(Command::Draw(drawing)) => execute_draw(
                 &self.buffers,
                 &mut self.textures,
+                &mut self.targets,
                 &self.programs,
                 &self.attribs,
                 &mut self.raster,

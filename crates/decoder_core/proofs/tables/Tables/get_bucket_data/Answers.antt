@@ -1,6 +1,5 @@
 use Rattle.gl_plain.specs.declared.commands.Command.TheVariants.{Bucket}
 use Rattle.gl_plain.specs.declared.commands.BucketCommand.TheVariants as buckets
-use Rattle.decoder_core.specs.Execution.{state_of}
 use Rattle.decoder_core.proofs.Executions.{passes_alone}
 use Rattle.decoder_core.proofs.tables.Tables.get_bucket_data.Goals as goal
 
