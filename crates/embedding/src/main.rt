@@ -90,10 +90,12 @@ fn print<R: Print>(rt: &R, report: &Report) -> anyhow::Result<()> {
     let Names {
         buffers,
         textures,
+        renderbuffers,
+        framebuffers,
         programs,
     } = report.names;
     println!(rt;
-        "names given: {buffers} to buffers, {textures} to textures, {programs} to shaders and programs"
+        "names given: {buffers} to buffers, {textures} to textures, {renderbuffers} to renderbuffers, {framebuffers} to framebuffers, {programs} to shaders and programs"
     )?;
     Ok(())
 }

@@ -11,8 +11,7 @@ use Rattle.gl_plain.specs.subjects.Images.{read_contents}
 use Rattle.gl_plain.specs.State.{Surface, WireState, opening_wire, opening_driver}
 use Rattle.gl_plain.specs.Bytes.{part}
 use Rattle.gl_plain.specs.Oracle.{Oracle}
-use Rattle.gl_plain.specs.Oracle as oracle
-use Rattle.gl_plain.specs.driver.Answers.{told, AreAnsweredBy}
+use Rattle.gl_plain.specs.driver.Answers.{told, behind_entries, AreAnsweredBy}
 use Rattle.gl_plain.specs.Run.{Run, wire_run}
 use Rattle.gl_plain.specs.Parts.{AreParts}
 use Rattle.gl_plain.specs.Agreement.{Agrees}
@@ -22,18 +21,18 @@ use Rattle.gl_plain.proofs.Opening.{opening_agrees}
 use Rattle.gl_laws.proofs.Fronts.{AreFirst}
 use Rattle.gl_laws.proofs.Runs.{records_of_run}
 use Rattle.gl_laws.proofs.CutRuns.{records_of_cut}
+use Rattle.gl_laws.proofs.PixelRuns.{same_cut, same_records, same_run}
 use Rattle.gl_driver.specs.History.{Served}
 use Rattle.gl_driver.specs.declared.stop.DriverStop.TheVariants as driver
 use Rattle.strict_driver.specs.StrictView.{StrictView}
 use Rattle.strict_driver.specs.StrictHistory.{history_of, Continues, answers_left}
-use Rattle.gles2_run.specs.declared.desk.Desk.{Desk}
 use Rattle.cb_shm.specs.declared.script.Script.{Script}
 use Rattle.cb_shm.specs.Memory.{CopyEntry}
 use Rattle.cb_shm.specs.Blocks.{part_of}
 use Rattle.cb_shm.specs.Hostile.{script_sizes, bytes_at}
 use Rattle.cb_shm.specs.declared.hostile.HostileMemory.{HostileMemory}
 use Rattle.cb_shm.specs.HostileMemories.{AreScripted, IsMemoryOf, memory_of}
-use Rattle.cb_fetch.specs.Seen.{AreGiven, Seen, seen, seen_puts, none_seen, script_reads}
+use Rattle.cb_fetch.specs.Seen.{AreGiven, seen, none_seen, script_reads}
 use Rattle.decoder_core.specs.declared.outcome.ServiceStop.{ServiceStop}
 use Rattle.decoder_core.specs.declared.outcome.ServiceStop.TheVariants as stops
 use Rattle.decoder_core.specs.ServiceView.{wire_of}
@@ -99,12 +98,10 @@ agrees_at_start script s d new loaded =
     let at_loaded : Agrees (wire_of s) (history_of (loaded_driver script.surface d.loaded)).state = subst (λ (w : WireState). Agrees w (opening_driver script.surface)) (sym new.opening) (opening_agrees script.surface) in
     subst (λ (v : StrictView). Agrees (wire_of s) (history_of v).state) (sym loaded) at_loaded
 
--- the side at its end: each copy gave what the script sets, and the driver kept to its answers
+-- the side at its end: each copy gave what the script sets, and the driver's calls are legal and within those before it is lost
 pub record IsEnd (script : Script) (b : Side StrictView) : Type 0 where
   pub given : AreGiven (script_reads script) 0 b.memory.copies
   pub legal : IsLegal (opening_driver b.driver.surface) b.driver.journal
-  pub answered : AreAnsweredBy (oracle.answers_of b.driver.loaded) b.driver.journal
-  pub pinned : told b.driver.journal (answers_left b.driver) ≡ oracle.answers_of b.driver.loaded
   pub within : IfSome b.driver.loaded.lost (λ n. length b.driver.journal ≤ n)
 
 module _ (script : Script) (a b : Side StrictView) (puts : List ℕ) (start : IsStart script a puts) (end : IsEnd script b) (answers : List Reply) where
@@ -121,18 +118,22 @@ module _ (script : Script) (a b : Side StrictView) (puts : List ℕ) (start : Is
     same_surface = served.grows.surface ∙ start.surface
 
     -- and gave the answers of the script
-    told_is : told entries (answers_left b.driver) ≡ answers_of script
-    told_is =
-        ap (λ (j : List DriverEntry). told j (answers_left b.driver)) (sym entered ∙ served.grows.journal ∙ ap (λ (j : List DriverEntry). j ++ served.grows.more) start.journal)
-        ∙ served.grows.answers ∙ start.gives
+    answered : AreAnsweredBy (answers_of script) entries
+    answered =
+        let more_is : served.grows.more ≡ entries = ap (λ (j : List DriverEntry). j ++ served.grows.more) (sym start.journal) ∙ sym served.grows.journal ∙ entered in
+        subst (λ (o : Oracle). AreAnsweredBy o entries) start.gives (subst (AreAnsweredBy (answers_left a.driver)) more_is served.grows.answers)
 
-    given_is : oracle.answers_of b.driver.loaded ≡ answers_of script
-    given_is = sym end.pinned ∙ ap (λ (j : List DriverEntry). told j (answers_left b.driver)) entered ∙ told_is
+    legal : IsLegal (opening_driver script.surface) entries
+    legal = rw (← entered, ← same_surface) end.legal
+
+    -- the answers of the script behind theirs
+    abbrev behind : Oracle
+    behind = behind_entries entries (answers_of script)
 
     keeps : KeepsToScript script (record { driver = b.driver; answers = answers })
     keeps = record {
       surface = same_surface;
-      answers = subst (λ (o : Oracle). AreAnsweredBy o b.driver.journal) given_is end.answered;
+      answers = subst (AreAnsweredBy (answers_of script)) (sym entered) answered;
       within = subst (λ (lost : Option ℕ). IfSome lost (λ n. length b.driver.journal ≤ n)) (ap (λ (given : Answers). given.lost) served.grows.loaded ∙ start.lost) end.within;
     }
 
@@ -141,21 +142,17 @@ module _ (script : Script) (a b : Side StrictView) (puts : List ℕ) (start : Is
         → ((rest : Oracle) → AreParts (opening_wire script.surface) (seen script).commands (told entries rest) entries) → Agrees last (history_of b.driver).state
         → ((ring_run script).stop ≡ stop) × HoldsRun script (record { driver = b.driver; answers = answers })
     holds stop last run parts agrees =
-        let run_is : ring_run script ≡ record { replies = answers; stop = stop; state = last } =
-        ap (wire_run (opening_wire script.surface) (seen script).commands (seen script).stop) (sym told_is) ∙ run (answers_left b.driver) in
-        let legal : IsLegal (opening_driver script.surface) entries = rw (← entered, ← same_surface) end.legal in
-        let records : records_in (opening_driver script.surface) entries ≡ run_records (opening_wire script.surface) (read_contents (opening_driver script.surface).contents) (seen script).commands (told entries (answers_left b.driver)) =
-        records_of_run (seen script).commands (opening_wire script.surface) (opening_driver script.surface) (answers_left b.driver) entries (opening_agrees script.surface) legal (parts (answers_left b.driver)) in (
+        let same = same_run (seen script).commands (opening_wire script.surface) (opening_driver script.surface) (answers_of script) entries (opening_agrees script.surface) legal answered (parts behind) in
+        let run_is : ring_run script ≡ record { replies = answers; stop = stop; state = last } = sym (same.0.run (seen script).stop) ∙ run behind in
+        let records : records_in (opening_driver script.surface) entries ≡ run_records (opening_wire script.surface) (read_contents (opening_driver script.surface).contents) (seen script).commands (told entries behind) =
+        records_of_run (seen script).commands (opening_wire script.surface) (opening_driver script.surface) behind entries (opening_agrees script.surface) legal (parts behind) in (
           ap (λ (r : Run). r.stop) run_is,
           record {
             replies = sym (ap (λ (r : Run). r.replies) run_is);
-            parts =
-                let by_answers : AreParts (opening_wire script.surface) (seen script).commands (answers_of script) entries =
-                subst (λ (o : Oracle). AreParts (opening_wire script.surface) (seen script).commands o entries) told_is (parts (answers_left b.driver)) in
-                subst (λ (j : List DriverEntry). AreParts (opening_wire script.surface) (seen script).commands (answers_of script) j) (sym entered) by_answers;
+            parts = subst (λ (j : List DriverEntry). AreParts (opening_wire script.surface) (seen script).commands (answers_of script) j) (sym entered) same.1;
             records =
                 ap (records_in (opening_driver script.surface)) entered ∙ records
-                ∙ ap (run_records (opening_wire script.surface) (read_contents (opening_driver script.surface).contents) (seen script).commands) told_is;
+                ∙ same_records (opening_wire script.surface) (seen script).commands (told entries behind) (answers_of script) same.0 (read_contents (opening_driver script.surface).contents);
             agrees = subst (λ (r : Run). Agrees r.state (state_after (opening_driver script.surface) b.driver.journal)) (sym run_is) (subst (λ (surface : Surface). Agrees last (state_after (opening_driver surface) b.driver.journal)) same_surface agrees);
             keeps = keeps;
           },
@@ -180,15 +177,17 @@ module _ (script : Script) (a b : Side StrictView) (puts : List ℕ) (start : Is
   holds_cut : (lost : Bool) → WasCutOff lost a [] puts b answers → HoldsFront lost script (record { driver = b.driver; answers = answers })
   holds_cut lost cut =
       let off : IsCutOff lost (opening_wire script.surface) (seen script) cut.replies cut.entries = rw (← start.wire, ← all_is) (cut.run (script_reads script) end.given) in
-      let told_here : told cut.entries (answers_left b.driver) ≡ answers_of script = told_is cut.entries cut.served in
-      let run = off.run (answers_left b.driver) in
-      let legal : IsLegal (opening_driver script.surface) cut.entries = rw (← entered cut.entries cut.served, ← same_surface cut.entries cut.served) end.legal in
-      let records : AreFirst (records_in (opening_driver script.surface) cut.entries) (run_records (opening_wire script.surface) (read_contents (opening_driver script.surface).contents) (take (suc (length cut.replies)) (seen script).commands) (told cut.entries (answers_left b.driver))) =
-      records_of_cut (seen script).commands lost (length cut.replies) (opening_wire script.surface) (opening_driver script.surface) (answers_left b.driver) cut.entries (opening_agrees script.surface) legal (off.parts (answers_left b.driver)) in
+      let behind_cut : Oracle = behind cut.entries cut.served in
+      let run = off.run behind_cut in
+      let same = same_cut (seen script).commands lost (length cut.replies) (opening_wire script.surface) (opening_driver script.surface) (answers_of script) cut.entries (opening_agrees script.surface)
+      (legal cut.entries cut.served) (answered cut.entries cut.served) (off.parts behind_cut) in
+      let records : AreFirst (records_in (opening_driver script.surface) cut.entries) (run_records (opening_wire script.surface) (read_contents (opening_driver script.surface).contents) (take (suc (length cut.replies)) (seen script).commands) (told cut.entries behind_cut)) =
+      records_of_cut (seen script).commands lost (length cut.replies) (opening_wire script.surface) (opening_driver script.surface) behind_cut cut.entries (opening_agrees script.surface) (legal cut.entries cut.served) (off.parts behind_cut) in
       record {
-        replies = (run.0, ap (λ (o : Oracle). (wire_run (opening_wire script.surface) (seen script).commands (seen script).stop o).replies) (sym told_here) ∙ run.1 ∙ ap (λ (r : List Reply). r ++ run.0) (sym cut.answered));
-        parts = rw (cut.answered, entered cut.entries cut.served, ← told_here) (off.parts (answers_left b.driver));
-        records = rw (cut.answered, entered cut.entries cut.served, ← told_here) records;
+        replies = (run.0, ap (λ (r : Run). r.replies) (sym (same.0.run (seen script).stop)) ∙ run.1 ∙ ap (λ (r : List Reply). r ++ run.0) (sym cut.answered));
+        parts = rw (cut.answered, entered cut.entries cut.served) same.1;
+        records = rw (cut.answered, entered cut.entries cut.served)
+            (records.0, sym (same.0.records (read_contents (opening_driver script.surface).contents) (suc (length cut.replies))) ∙ records.1);
         keeps = keeps cut.entries cut.served;
       }
 

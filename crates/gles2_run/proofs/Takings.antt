@@ -13,7 +13,7 @@ use Rattle.cb_shm.specs.Memory.{CopyEntry, MemoryView}
 use Rattle.cb_fetch.specs.Seen.{Reads, AreGiven, Seen, seen_puts}
 use Rattle.decoder_core.specs.declared.outcome.ServiceStop.{ServiceStop}
 use Rattle.decoder_core.specs.declared.outcome.ServiceStop.TheVariants.{Bad, Lost, NoMemory}
-use Rattle.decoder_core.specs.ServiceView.{ServiceView, wire_of, with_put, IsAtRest}
+use Rattle.decoder_core.specs.ServiceView.{wire_of, with_put, IsAtRest}
 use Rattle.decoder_core.specs.Side.{Side, side}
 use Rattle.decoder_core.specs.Serving.{HasMore, RanOn, RanTo, RanShort, IsServed}
 use Rattle.gles2_run.specs.Puts.{seen_by_puts, HasTaken, HasStopped, WasCutOff, TookPuts}

@@ -2,17 +2,17 @@
 use Rattle.std.specs.Prelude.{ℕ, Bool, if◌then◌else◌, List, [], ◌∷◌, ◌++◌, map, codes}
 use Rattle.std.specs.Fmt.{decimal, signed_decimal}
 use Rattle.gl_plain.specs.declared.driver_calls.ObjectDriver.{ObjectDriver}
-use Rattle.gl_plain.specs.declared.driver_calls.ObjectDriver.TheVariants.{GenBuffer, BindBuffer, BufferData, BufferSubData, DeleteBuffer, GenTexture, BindTexture, DeleteTexture, VertexAttrib4, VertexAttribPointer, SetArray}
+use Rattle.gl_plain.specs.declared.driver_calls.ObjectDriver.TheVariants.{GenBuffer, BindBuffer, BufferData, BufferSubData, DeleteBuffer, GenTexture, BindTexture, DeleteTexture, GenRenderbuffer, BindRenderbuffer, DeleteRenderbuffer, GenFramebuffer, BindFramebuffer, DeleteFramebuffer, FramebufferTexture, FramebufferRenderbuffer, VertexAttrib4, VertexAttribPointer, SetArray}
 use Rattle.gl_plain.specs.declared.driver_calls.DriverCall.{DriverCall}
 use Rattle.gl_plain.specs.declared.driver_calls.DriverCall.TheVariants.{Object, Image, Program, Draw}
 use Rattle.gl_plain.specs.declared.driver_calls.ImageDriver.{ImageDriver}
-use Rattle.gl_plain.specs.declared.driver_calls.ImageDriver.TheVariants.{TexImage, TexSubImage, ZeroLevel, TexParameter}
+use Rattle.gl_plain.specs.declared.driver_calls.ImageDriver.TheVariants.{TexImage, TexSubImage, ZeroLevel, TexParameter, CopyTexImage, CopyTexSubImage, GenerateMipmap, RenderbufferStorage, ZeroRenderbuffer, ReadPixels}
 use Rattle.gl_plain.specs.declared.driver_calls.DrawDriver.{DrawDriver}
 use Rattle.gl_plain.specs.declared.driver_calls.DrawDriver.TheVariants.{ActiveTexture, SetRaster, Clear, DrawArrays, DrawElements}
 use Rattle.gl_plain.specs.declared.driver_calls.ProgramDriver.{ProgramDriver}
 use Rattle.gl_plain.specs.declared.driver_calls.ProgramDriver.TheVariants.{CreateShader, CreateProgram, DeleteShader, DeleteProgram, ShaderSource, CompileShader, AttachShader, DetachShader, BindAttribLocation, LinkProgram, ValidateProgram, UseProgram, Uniform}
 use Rattle.gl_plain.specs.declared.driver_calls.Answer.{Answer}
-use Rattle.gl_plain.specs.declared.driver_calls.Answer.TheVariants.{Done, Name, Oom, Compile, Link, Validate}
+use Rattle.gl_plain.specs.declared.driver_calls.Answer.TheVariants.{Done, Name, Oom, Compile, Link, Validate, Pixels}
 use Rattle.report_text.specs.Lines.{spaced}
 use Rattle.report_text.specs.Values.{enum_text, pattern_text, flag_text, bytes_text, payload_text}
 
@@ -27,12 +27,20 @@ object_text (DeleteBuffer name) = codes "delete_buffer" ++ spaced (decimal name 
 object_text GenTexture = codes "gen_texture"
 object_text (BindTexture target name) = codes "bind_texture" ++ spaced (enum_text target.0 ∷ decimal name ∷ [])
 object_text (DeleteTexture name) = codes "delete_texture" ++ spaced (decimal name ∷ [])
+object_text GenRenderbuffer = codes "gen_renderbuffer"
+object_text (BindRenderbuffer name) = codes "bind_renderbuffer" ++ spaced (decimal name ∷ [])
+object_text (DeleteRenderbuffer name) = codes "delete_renderbuffer" ++ spaced (decimal name ∷ [])
+object_text GenFramebuffer = codes "gen_framebuffer"
+object_text (BindFramebuffer name) = codes "bind_framebuffer" ++ spaced (decimal name ∷ [])
+object_text (DeleteFramebuffer name) = codes "delete_framebuffer" ++ spaced (decimal name ∷ [])
+object_text (FramebufferTexture attachment textarget name) = codes "framebuffer_texture" ++ spaced (enum_text attachment.0 ∷ enum_text textarget.0 ∷ decimal name ∷ [])
+object_text (FramebufferRenderbuffer attachment name) = codes "framebuffer_renderbuffer" ++ spaced (enum_text attachment.0 ∷ decimal name ∷ [])
 object_text (VertexAttrib4 index values) = codes "vertex_attrib_4" ++ spaced (decimal index ∷ map pattern_text values)
 object_text (VertexAttribPointer index size kind normalized stride offset) =
     codes "vertex_attrib_pointer" ++ spaced (decimal index ∷ signed_decimal size ∷ enum_text kind.0 ∷ flag_text normalized ∷ signed_decimal stride ∷ decimal offset ∷ [])
 object_text (SetArray index on) = codes "set_array" ++ spaced (decimal index ∷ flag_text on ∷ [])
 
--- a call on an image is its name and its arguments
+-- a call on an image, or one that reads pixels, is its name and its arguments
 unfoldable pub image_text : ImageDriver → List ℕ
 image_text (TexImage target level format kind width height payload) =
     codes "tex_image" ++ spaced (enum_text target.0 ∷ signed_decimal level ∷ enum_text format.0 ∷ enum_text kind.0 ∷ signed_decimal width ∷ signed_decimal height ∷ payload_text payload ∷ [])
@@ -42,6 +50,15 @@ image_text (TexSubImage part bytes) =
 image_text (ZeroLevel place rect) =
     codes "zero_level" ++ spaced (decimal place.texture ∷ enum_text place.face.0 ∷ decimal place.level ∷ decimal rect.x ∷ decimal rect.y ∷ decimal rect.width ∷ decimal rect.height ∷ [])
 image_text (TexParameter target pname value) = codes "tex_parameter" ++ spaced (enum_text target.0 ∷ enum_text pname.0 ∷ enum_text value.0 ∷ [])
+image_text (CopyTexImage target level format x y width height) =
+    codes "copy_tex_image" ++ spaced (enum_text target.0 ∷ signed_decimal level ∷ enum_text format.0 ∷ signed_decimal x ∷ signed_decimal y ∷ signed_decimal width ∷ signed_decimal height ∷ [])
+image_text (CopyTexSubImage copy) =
+    codes "copy_tex_sub_image" ++ spaced (enum_text copy.target.0 ∷ signed_decimal copy.level ∷ signed_decimal copy.xoffset ∷ signed_decimal copy.yoffset
+    ∷ signed_decimal copy.x ∷ signed_decimal copy.y ∷ signed_decimal copy.width ∷ signed_decimal copy.height ∷ [])
+image_text (GenerateMipmap target) = codes "generate_mipmap" ++ spaced (enum_text target.0 ∷ [])
+image_text (RenderbufferStorage format width height) = codes "renderbuffer_storage" ++ spaced (enum_text format.0 ∷ signed_decimal width ∷ signed_decimal height ∷ [])
+image_text (ZeroRenderbuffer name) = codes "zero_renderbuffer" ++ spaced (decimal name ∷ [])
+image_text (ReadPixels x y width height) = codes "read_pixels" ++ spaced (signed_decimal x ∷ signed_decimal y ∷ signed_decimal width ∷ signed_decimal height ∷ [])
 
 -- a call on a shader or a program is its name and its arguments
 unfoldable pub program_text : ProgramDriver → List ℕ
@@ -79,8 +96,8 @@ call_text (Draw call) = drawing_text call
 abbrev pub outcome_text : Bool → List ℕ
 outcome_text ok = if ok then codes " -> ok" else codes " -> fail"
 
--- an answer adds the name that it gives, the word `oom`, or whether a compilation, a link or a validation went well, and else nothing; logs and
--- lists are not printed
+-- an answer adds the name that it gives, the word `oom`, whether a compilation, a link or a validation went well, or the pixels that were read, and
+-- else nothing; logs and lists are not printed
 unfoldable pub answer_text : Answer → List ℕ
 answer_text Done = []
 answer_text (Name name) = codes " -> " ++ decimal name
@@ -88,3 +105,4 @@ answer_text Oom = codes " -> oom"
 answer_text (Compile ok log) = outcome_text ok
 answer_text (Link a) = outcome_text a.ok
 answer_text (Validate ok log) = outcome_text ok
+answer_text (Pixels bytes) = codes " -> " ++ bytes_text bytes

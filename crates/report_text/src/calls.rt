@@ -5,7 +5,7 @@ ghost use Rattle.report_text.specs.Calls.{answer_text, call_text, drawing_text, 
 
 use crate::arguments::Argument;
 use crate::image_calls::write_image;
-use crate::values::write_number;
+use crate::values::{write_bytes, write_number};
 use crate::words::write_named;
 use Argument::{Data, Enum, Flag, Number, Patterns, Signed};
 use gl_base::GlEnum;
@@ -49,6 +49,34 @@ fn write_object(line: &mut Vec<u8>, call: &ObjectDriver) -> Result<(), AllocErro
         ObjectDriver::DeleteTexture { name } => {
             write_named(line, "delete_texture", &[Number(*name)])
         }
+        ObjectDriver::GenRenderbuffer => write_named(line, "gen_renderbuffer", &[]),
+        ObjectDriver::BindRenderbuffer { name } => {
+            write_named(line, "bind_renderbuffer", &[Number(*name)])
+        }
+        ObjectDriver::DeleteRenderbuffer { name } => {
+            write_named(line, "delete_renderbuffer", &[Number(*name)])
+        }
+        ObjectDriver::GenFramebuffer => write_named(line, "gen_framebuffer", &[]),
+        ObjectDriver::BindFramebuffer { name } => {
+            write_named(line, "bind_framebuffer", &[Number(*name)])
+        }
+        ObjectDriver::DeleteFramebuffer { name } => {
+            write_named(line, "delete_framebuffer", &[Number(*name)])
+        }
+        ObjectDriver::FramebufferTexture {
+            attachment,
+            textarget,
+            name,
+        } => write_named(
+            line,
+            "framebuffer_texture",
+            &[Enum(*attachment), Enum(*textarget), Number(*name)],
+        ),
+        ObjectDriver::FramebufferRenderbuffer { attachment, name } => write_named(
+            line,
+            "framebuffer_renderbuffer",
+            &[Enum(*attachment), Number(*name)],
+        ),
         ObjectDriver::VertexAttrib4 { index, values } => write_named(
             line,
             "vertex_attrib_4",
@@ -263,5 +291,9 @@ pub fn write_answer(line: &mut Vec<u8>, answer: &Answer) -> Result<(), AllocErro
         Answer::Compile { ok, log: _ } => write_outcome(line, *ok),
         Answer::Link(answer) => write_outcome(line, answer.ok),
         Answer::Validate { ok, log: _ } => write_outcome(line, *ok),
+        Answer::Pixels(bytes) => {
+            line.extend_from_slice(b" -> ")?;
+            write_bytes(line, bytes.as_slice())
+        }
     }
 }

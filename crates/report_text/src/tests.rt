@@ -1,11 +1,12 @@
 //! Lines of each kind. The other rows are shown by whole runs.
 use super::*;
 use gl_base::enums::{ARRAY_BUFFER, INVALID_VALUE, STATIC_DRAW, UNSIGNED_BYTE};
+use gl_base::target_enums::{COLOR_ATTACHMENT0, RGB565};
 use gl_base::texture_enums::{RGBA, TEXTURE_2D};
 use gl_base::{GlEnum, Rect};
 use gl_plain::{
-    Answer, AttributeList, Bytes, DrawDriver, DriverCall, DriverEntry, ImageDriver, ImagePlace,
-    LinkAnswer, Names, ObjectDriver, Payload, ProgramDriver, Reply, UniformList, Words,
+    Answer, AttributeList, Bytes, CopyPartWords, DrawDriver, DriverCall, DriverEntry, ImageDriver,
+    ImagePlace, LinkAnswer, Names, ObjectDriver, Payload, ProgramDriver, Reply, UniformList, Words,
 };
 use std::alloc::{AllocError, Global};
 use std::process::Abort;
@@ -184,6 +185,103 @@ fn calls_on_images_have_lines(rt: HostRuntime) -> Result<(), Fail> {
     };
     let line = image_line(alloc, 13, zeroing, Answer::Done)?;
     check_line(&rt, line, "driver 13 zero_level 1 0x0DE1 0 0 0 2 2\n");
+    Ok(())
+}
+
+#[test]
+fn calls_on_targets_have_lines(rt: HostRuntime) -> Result<(), Fail> {
+    let alloc = rt.alloc();
+    let line = line_of(alloc, 1, ObjectDriver::GenRenderbuffer, Answer::Name(3))?;
+    check_line(&rt, line, "driver 1 gen_renderbuffer -> 3\n");
+    let bind = ObjectDriver::BindFramebuffer { name: 9 };
+    let line = line_of(alloc, 2, bind, Answer::Done)?;
+    check_line(&rt, line, "driver 2 bind_framebuffer 9\n");
+    let attach = ObjectDriver::FramebufferTexture {
+        attachment: COLOR_ATTACHMENT0,
+        textarget: TEXTURE_2D,
+        name: 7,
+    };
+    let line = line_of(alloc, 3, attach, Answer::Done)?;
+    check_line(&rt, line, "driver 3 framebuffer_texture 0x8CE0 0x0DE1 7\n");
+    let detach = ObjectDriver::FramebufferRenderbuffer {
+        attachment: COLOR_ATTACHMENT0,
+        name: 0,
+    };
+    let line = line_of(alloc, 4, detach, Answer::Done)?;
+    check_line(&rt, line, "driver 4 framebuffer_renderbuffer 0x8CE0 0\n");
+    let storage = ImageDriver::RenderbufferStorage {
+        format: RGB565,
+        width: 5,
+        height: 6,
+    };
+    let line = image_line(alloc, 5, storage, Answer::Oom)?;
+    check_line(
+        &rt,
+        line,
+        "driver 5 renderbuffer_storage 0x8D62 5 6 -> oom\n",
+    );
+    let zeroing = ImageDriver::ZeroRenderbuffer { name: 3 };
+    let line = image_line(alloc, 6, zeroing, Answer::Done)?;
+    check_line(&rt, line, "driver 6 zero_renderbuffer 3\n");
+    Ok(())
+}
+
+#[test]
+fn copies_and_reads_have_lines(rt: HostRuntime) -> Result<(), Fail> {
+    let alloc = rt.alloc();
+    let copy = ImageDriver::CopyTexImage {
+        target: TEXTURE_2D,
+        level: 1,
+        format: RGBA,
+        x: -2,
+        y: 3,
+        width: 4,
+        height: 5,
+    };
+    let line = image_line(alloc, 7, copy, Answer::Done)?;
+    check_line(
+        &rt,
+        line,
+        "driver 7 copy_tex_image 0x0DE1 1 0x1908 -2 3 4 5\n",
+    );
+    let copy = ImageDriver::CopyTexSubImage {
+        copy: CopyPartWords {
+            target: TEXTURE_2D,
+            level: 0,
+            xoffset: 1,
+            yoffset: 2,
+            x: -3,
+            y: i32::MIN,
+            width: 5,
+            height: 6,
+        },
+    };
+    let line = image_line(alloc, 8, copy, Answer::Done)?;
+    check_line(
+        &rt,
+        line,
+        "driver 8 copy_tex_sub_image 0x0DE1 0 1 2 -3 -2147483648 5 6\n",
+    );
+    let mipmap = ImageDriver::GenerateMipmap { target: TEXTURE_2D };
+    let line = image_line(alloc, 9, mipmap, Answer::Done)?;
+    check_line(&rt, line, "driver 9 generate_mipmap 0x0DE1\n");
+    let read = ImageDriver::ReadPixels {
+        x: 0,
+        y: 0,
+        width: 1,
+        height: 1,
+    };
+    let pixels = Bytes::from_slice(alloc, &[0, 0xFF, 0, 0xFF])?;
+    let line = image_line(alloc, 0, read, Answer::Pixels(pixels))?;
+    check_line(&rt, line, "driver 0 read_pixels 0 0 1 1 -> 4:00ff00ff\n");
+    let read = ImageDriver::ReadPixels {
+        x: -1,
+        y: 0,
+        width: 0,
+        height: 1,
+    };
+    let line = image_line(alloc, 10, read, Answer::Pixels(Bytes::new(alloc)))?;
+    check_line(&rt, line, "driver 10 read_pixels -1 0 0 1 -> 0:-\n");
     Ok(())
 }
 

@@ -13,8 +13,8 @@ use Rattle.cb_shm.specs.Hostile.{listed_size, script_sizes}
 use Rattle.cb_shm.specs.Whole.{AreDistinct, HasNumber, IsPatchInside, IsTimedInside}
 use Rattle.gl_plain.specs.declared.common_lines.AnswersDraft.{AnswersDraft}
 use Rattle.gl_plain.specs.declared.common_lines.CommonLine.{CommonLine}
-use Rattle.gl_plain.specs.declared.common_lines.CommonLine.TheVariants.{Surface, Ring, Oom, Lost, Compile, Link, OfAttribute, OfUniform, Validate}
-use Rattle.gl_plain.specs.CommonLines.{closed, with_attribute, with_compile, with_link, with_lost, with_oom, with_uniform, with_validate, IsSoundDraft}
+use Rattle.gl_plain.specs.declared.common_lines.CommonLine.TheVariants.{Surface, Ring, Oom, Lost, Compile, Link, OfAttribute, OfUniform, Validate, Pixels}
+use Rattle.gl_plain.specs.CommonLines.{closed, with_attribute, with_compile, with_link, with_lost, with_oom, with_pixels, with_uniform, with_validate, IsSoundDraft}
 use Rattle.gl_plain.proofs.SoundAnswers.{let_through, sound_attribute, sound_closed, sound_compile, sound_link, sound_lost, sound_no_draft, sound_oom, sound_uniform, sound_validate}
 use Rattle.ring_script.specs.Limits.{listed_bytes, total_bytes, IsSmall}
 use Rattle.ring_script.specs.Rules.{before_line, draft_after, empty_draft, ends_list, is_first, is_side, script_of, with_answers, with_common, with_line, with_opening, with_put, with_region, with_ring, with_surface, with_timed, IsSound}
@@ -227,6 +227,12 @@ sound_answers draft next (Some answers) sound said e =
     let same : record draft { answers = answers } ≡ next = cc in
     subst IsSound same (sound_beside draft draft.surface draft.puts answers sound (said answers refl))
 
+-- pixels may be any bytes
+sound_pixels : (draft next : AnswersDraft) (bytes : List ℕ) → IsSoundDraft draft → Some (with_pixels draft bytes) ≡ Some next → IsSoundDraft next
+sound_pixels draft next bytes sound e =
+    let same : with_pixels draft bytes ≡ next = cc in
+    subst IsSoundDraft same (record { compile = sound.compile; link = sound.link; last = sound.last; validate = sound.validate })
+
 sound_common : (draft next : Draft) (line : CommonLine) → IsSound draft → with_common draft line ≡ Some next → IsSound next
 unfolding with_common
 sound_common draft next (Surface width height) sound e = sound_surface draft next width height sound e
@@ -238,6 +244,7 @@ sound_common draft next (Link v) sound e = sound_answers draft next (with_link d
 sound_common draft next (OfAttribute x) sound e = sound_answers draft next (with_attribute draft.answers x) sound (λ a. sound_attribute draft.answers a x sound.answers) e
 sound_common draft next (OfUniform u) sound e = sound_answers draft next (with_uniform draft.answers u) sound (λ a. sound_uniform draft.answers a u sound.answers) e
 sound_common draft next (Validate v) sound e = sound_answers draft next (with_validate draft.answers v) sound (λ a. sound_validate draft.answers a v sound.answers) e
+sound_common draft next (Pixels bytes) sound e = sound_answers draft next (Some (with_pixels draft.answers bytes)) sound (λ a. sound_pixels draft.answers a bytes sound.answers) e
 
 -- any line that may stand
 sound_line : (draft next : Draft) (line : Line) → IsSound draft → with_line draft line ≡ Some next → IsSound next

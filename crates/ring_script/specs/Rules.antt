@@ -9,9 +9,9 @@ use Rattle.cb_shm.specs.Whole.{IsWholeScript}
 use Rattle.cb_shm.specs.declared.script.Script.{Script}
 use Rattle.gl_base.specs.declared.limits.TheConstants.{DATA_LIMIT, DEFAULT_SURFACE, DEFAULT_ENTRIES, LEAST_ENTRIES, MOST_ENTRIES, LAST_REGION, SIDE_LIMIT, TOTAL_LIMIT}
 use Rattle.gl_plain.specs.declared.common_lines.CommonLine.{CommonLine}
-use Rattle.gl_plain.specs.declared.common_lines.CommonLine.TheVariants.{Surface, Ring, Oom, Lost, Compile, Link, OfAttribute, OfUniform, Validate}
+use Rattle.gl_plain.specs.declared.common_lines.CommonLine.TheVariants.{Surface, Ring, Oom, Lost, Compile, Link, OfAttribute, OfUniform, Validate, Pixels}
 use Rattle.gl_plain.specs.declared.common_lines.AnswersDraft.{AnswersDraft}
-use Rattle.gl_plain.specs.CommonLines.{no_draft, answers_in, closed, with_attribute, with_compile, with_link, with_lost, with_oom, with_uniform, with_validate, IsSoundDraft}
+use Rattle.gl_plain.specs.CommonLines.{no_draft, answers_in, closed, with_attribute, with_compile, with_link, with_lost, with_oom, with_pixels, with_uniform, with_validate, IsSoundDraft}
 use Rattle.ring_script.specs.Limits.{total_bytes, IsWithinLimits}
 use Rattle.ring_script.specs.declared.draft.Draft.{Draft}
 use Rattle.ring_script.specs.declared.line.Line.{Line}
@@ -92,6 +92,7 @@ with_common draft (Link v) = with_answers draft (with_link draft.answers v)
 with_common draft (OfAttribute a) = with_answers draft (with_attribute draft.answers a)
 with_common draft (OfUniform u) = with_answers draft (with_uniform draft.answers u)
 with_common draft (Validate v) = with_answers draft (with_validate draft.answers v)
+with_common draft (Pixels bytes) = with_answers draft (Some (with_pixels draft.answers bytes))
 
 -- whether a line that traces have as well ends the list of the last link
 abbrev pub ends_list_of_link : CommonLine → Bool
@@ -104,6 +105,7 @@ ends_list_of_link (Link v) = true
 ends_list_of_link (OfAttribute a) = false
 ends_list_of_link (OfUniform u) = false
 ends_list_of_link (Validate v) = true
+ends_list_of_link (Pixels bytes) = true
 
 -- whether a line does: empty lines, comments, and lines on the link's attributes and uniforms do not
 abbrev pub ends_list : Line → Bool

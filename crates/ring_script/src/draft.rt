@@ -223,6 +223,10 @@ impl Draft {
             CommonLine::OfAttribute(attribute) => self.answers.take_attribute(attribute),
             CommonLine::OfUniform(uniform) => self.answers.take_uniform(uniform),
             CommonLine::Validate(verdict) => self.answers.take_validate(verdict),
+            CommonLine::Pixels(bytes) => {
+                self.answers.take_pixels(bytes)?;
+                Ok(true)
+            }
         }
     }
 

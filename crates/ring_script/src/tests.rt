@@ -4,15 +4,16 @@ use gl_plain::{Answer, Answers};
 use std::process::Abort;
 use std::test::Fail;
 
-/// What the lines on compilations, links and validations say.
+/// What the lines on compilations, links, validations and reads say.
 fn check_answers(rt: &impl Abort, answers: &Answers) {
     assert_eq!(rt;
         (
             answers.compile.len(),
             answers.link.len(),
-            answers.validate.len()
+            answers.validate.len(),
+            answers.pixels.len()
         ),
-        (1, 2, 1)
+        (1, 2, 1, 2)
     );
     let Some(Answer::Compile { ok: false, log }) = answers.compile.get(0) else {
         panic!(rt; "no failed compilation");
@@ -33,13 +34,17 @@ fn check_answers(rt: &impl Abort, answers: &Answers) {
     };
     assert_eq!(rt; uniform.name.as_slice(), b"m[0]".as_slice());
     assert_eq!(rt; uniform.size, 1024u32);
+    let Some(Answer::Pixels(pixels)) = answers.pixels.get(0) else {
+        panic!(rt; "no pixels");
+    };
+    assert_eq!(rt; pixels.as_slice(), [0u8, 255].as_slice());
 }
 
 #[test]
 #[tactic(auto, using(crate::proofs::TextLines::few_lines))]
 fn a_script_is_what_its_lines_say(rt: HostRuntime) -> Result<(), Fail> {
     let text =
-        b"# all lines\nring 4\nregion 7 3\nsurface 2048 1\nbytes 0 0 01fF\nat 9 7 1 0a\nput 0xA\n\nbytes 7 1 Ab\nregion 1 0\nput 2\noom 3\nat 0x8 0 16 -\nlost 9\noom 0x0\ncompile fail 6e6F\nlink fail -\nlink ok 00\nattr pos FLOAT_VEC3 14\n\nattr a 0x1406 13\nuniform m[0] FLOAT_MAT4 1024\nvalidate ok -";
+        b"# all lines\nring 4\nregion 7 3\nsurface 2048 1\nbytes 0 0 01fF\nat 9 7 1 0a\nput 0xA\n\nbytes 7 1 Ab\nregion 1 0\nput 2\noom 3\nat 0x8 0 16 -\nlost 9\noom 0x0\ncompile fail 6e6F\nlink fail -\nlink ok 00\nattr pos FLOAT_VEC3 14\n\nattr a 0x1406 13\nuniform m[0] FLOAT_MAT4 1024\nvalidate ok -\npixels 00fF\npixels -";
     let script = read_script(rt.alloc(), text)?;
     assert_eq!(rt; script.surface, (2048, 1));
     assert_eq!(rt; script.entries, 4);

@@ -1,10 +1,9 @@
-use Rattle.std.proofs.Common.{◌≡◌, sym, ◌∙◌, ap, subst, inr, List, []}
+use Rattle.std.proofs.Common.{◌≡◌, ◌∙◌, ap, subst, inr, List, []}
 use Rattle.gl_plain.specs.declared.calls.Reply.{Reply}
 use Rattle.cb_shm.specs.HostileMemories.{memory_of}
 use Rattle.decoder_core.specs.Side.{side}
-use Rattle.strict_driver.specs.StrictView.{StrictView}
 use Rattle.gles2_run.specs.declared.desk.Desk.{Desk}
-use Rattle.gles2_run.specs.Desks.{new_desk, loaded_driver}
+use Rattle.gles2_run.specs.Desks.{loaded_driver}
 use Rattle.gles2_run.specs.Puts.{TookPuts}
 use Rattle.gles2_run.proofs.Runs.{IsStart, IsEnd, starts, agrees_at_start, are_given, done_holds, bad_holds, lost_holds, short_holds}
 use Rattle.gles2_run.proofs.working.execute.Goals as goal
@@ -23,8 +22,6 @@ module _ (c : goal.After-drop-memory-3) where
   end = record {
     given = are_given c.args.script 0 c.take_puts-taken.new.memory.history.copies (c.take_puts-taken.ensures.grows c.args.script c.in-Ok.ensures.described).copies_are;
     legal = c.journal.ensures.legal;
-    answered = c.journal.ensures.answered;
-    pinned = c.journal.ensures.answers;
     within = c.journal.ensures.within;
   }
 
