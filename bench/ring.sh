@@ -29,7 +29,9 @@ CREATE_SHADER, COMPILE_SHADER, CREATE_PROGRAM, ATTACH_SHADER, LINK_PROGRAM, USE_
 VERTEX_ATTRIB_POINTER, ENABLE_VERTEX_ATTRIB_ARRAY, ENABLE, DISABLE, DRAW_ARRAYS, DRAW_ELEMENTS = 294, 295, 297, 298, 322, 323
 ARRAY_BUFFER, ELEMENT_ARRAY_BUFFER, STATIC_DRAW, VERTEX_SHADER, FRAGMENT_SHADER = 0x8892, 0x8893, 0x88E4, 0x8B31, 0x8B30
 UNSIGNED_BYTE, UNSIGNED_SHORT, FLOAT, BLEND, TRIANGLES = 0x1401, 0x1403, 0x1406, 0x0BE2, 4
+GEN_FRAMEBUFFERS, BIND_FRAMEBUFFER, DELETE_FRAMEBUFFERS, FRAMEBUFFER_TEXTURE_2D, CLEAR, READ_PIXELS = 275, 276, 277, 278, 321, 324
 TEXTURE_2D, TEXTURE0, RGBA = 0x0DE1, 0x84C0, 0x1908
+FRAMEBUFFER, COLOR_ATTACHMENT0, COLOR_BUFFER_BIT = 0x8D40, 0x8CE0, 0x4000
 
 
 def command(number, *words):
@@ -100,9 +102,16 @@ def uniforms(n):
 
 
 def laps(setup, copies, lines, commands, count, rounds):
-    """Some commands, of which there are so many, in rounds. Behind the first round a Noop covers the setup, which takes so many copies."""
-    size, entries = len(setup) // 4, (len(setup) + len(commands)) // 4
-    middle = size + (entries - size) // count * (count // 2)
+    """Some commands of one size, of which there are so many, in rounds. Behind the first round a Noop covers the setup, which takes so many copies."""
+    middle = len(commands) // count * (count // 2)
+    return halved_laps(setup, copies, lines, commands[:middle], commands[middle:], rounds)
+
+
+def halved_laps(setup, copies, lines, first, second, rounds):
+    """The same of any commands: each round publishes the first ones, and then the second."""
+    size = len(setup) // 4
+    middle, entries = size + len(first) // 4, size + (len(first) + len(second)) // 4
+    commands = first + second
     text = f"ring {entries}\n{lines}bytes 0 0 {(setup + commands).hex()}\nat {copies} 0 0 {struct.pack('<I', size).hex()}\n"
     return (text + f"put {middle}\nput 0\n" * rounds).encode()
 
@@ -171,6 +180,32 @@ def eight_textures(n):
     lines = "link ok -\n" + "".join(f"uniform s{k} SAMPLER_2D 1\n" for k in range(8))
     lines += f"region 1 40\nbytes 1 8 {b''.join(struct.pack('<I', k) for k in range(8)).hex()}\n"
     return laps(setup, 170, lines, command(DRAW_ARRAYS, TRIANGLES, 0, 3) * 100000, 100000, n // 100000), n, n + 125
+
+
+def attached(id, texture):
+    """A framebuffer with the texture as its colours."""
+    ring = command(GEN_FRAMEBUFFERS, id) + command(BIND_FRAMEBUFFER, FRAMEBUFFER, id)
+    return ring + command(FRAMEBUFFER_TEXTURE_2D, FRAMEBUFFER, COLOR_ATTACHMENT0, TEXTURE_2D, texture, 0)
+
+
+def framebuffers(n):
+    """Rounds of 65,536 framebuffers, all with one texture: they are made and bound, the texture is attached, and then they are deleted."""
+    ids = range(1, 65537)
+    made = b"".join(attached(id, 1) for id in ids)
+    deleted = b"".join(command(DELETE_FRAMEBUFFERS, id) for id in ids)
+    return halved_laps(texture(1, [16]), 6, "", made, deleted, n // 65536), 4 * n, 4 * n + 4
+
+
+def clears(n):
+    """Rounds of 100,000 Clears of a framebuffer with a texture, which is zeroed at the first."""
+    setup = texture(1, [16]) + attached(1, 1)
+    return laps(setup, 12, "", command(CLEAR, COLOR_BUFFER_BIT) * 100000, 100000, n // 100000), n, n + 8
+
+
+def reads(n):
+    """Rounds of 100,000 reads of 16 by 16 pixels of the default framebuffer into a bucket."""
+    read = command(READ_PIXELS, 0, 0, 16, 16, RGBA, UNSIGNED_BYTE, 0)
+    return laps(command(NOOP), 1, "", read * 100000, 100000, n // 100000), n, 2 * n + 1
 
 
 def raster(n):
@@ -284,6 +319,9 @@ ROWS = [
     ("TexSubImage2D of 16 by 16", parts_of_image, 50000),
     ("TexImage2D of 4 MiB of a region", images, 500),
     ("DrawArrays of 3, eight textures", eight_textures, 500000),
+    ("framebuffers made, attached, deleted", framebuffers, 65536),
+    ("Clear of a texture's framebuffer", clears, 1000000),
+    ("ReadPixels of 16 by 16", reads, 100000),
     ("Enable and Disable", raster, 500000),
     ("64 MiB through a bucket", through_bucket, DATA_LIMIT),
     ("Noops, a put for each 1,024", large_rounds, 500000),
