@@ -6,3 +6,4 @@ pub mod Rects
 pub mod Unions
 pub mod Rest
 pub mod Rows
+pub mod Exponents

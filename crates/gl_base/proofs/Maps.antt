@@ -1,12 +1,13 @@
 -- Finite maps whose keys are numbers: from std's lists of entries to `FinMap`, and back.
-use Rattle.std.proofs.Common.{◌≡◌, ℕ, ◌+◌, true, cond, List, [], ◌∷◌, length, refl, sym, ◌∙◌, ap, Option, None, Some, is_some, Bool, false, arith, Ordering, Less, Equal, Greater}
-use Rattle.std.specs.Ordering.{nat_cmp, eq_by_cmp, is_eq}
+use Rattle.std.proofs.Common.{◌≡◌, ℕ, ◌+◌, true, cond, List, [], ◌∷◌, length, refl, sym, subst, T, ◌∙◌, ap, ◌&&◌, Option, None, Some, is_some, Bool, false, arith, Ordering, Less, Equal, Greater}
+use Rattle.std.specs.FinMap.Entries.{below_all}
+use Rattle.std.specs.Ordering.{nat_cmp, eq_by_cmp, is_eq, is_lt}
 use Rattle.std.specs.Cmp.{nat_cmp_total, eq_by_cmp_equiv}
 use Rattle.std.specs.List.{AllByRecursion}
 use Rattle.std.specs.List.Sorted.{IsStrictlySortedBy}
 use Rattle.std.specs.Map.{lookup, keys_of}
 use Rattle.std.specs.BTreeMap.{is_at}
-use Rattle.std.specs.FinMap.{FinMap, nat_cmp-IsAntisymmetric, get, insert, remove, len, from_entries, find, get-from_entries, get-insert, get-remove, len-insert, len-empty, same_map}
+use Rattle.std.specs.FinMap.{FinMap, nat_cmp-IsAntisymmetric, entries, entries-from_sorted, from_sorted, get-from_sorted, is_sorted, get, insert, remove, len, from_entries, find, get-from_entries, get-insert, get-remove, len-insert, len-empty, same_map}
 
 Equal_of_is_eq : (o : Ordering) → is_eq o ≡ true → o ≡ Equal
 Equal_of_is_eq Less e = cc
@@ -66,3 +67,19 @@ module _ {X : Type 0} where
   pub remove-absent : (m : FinMap nat_cmp X) (k : ℕ) → get m k ≡ None → remove m k ≡ m
   remove-absent m k none = same_map nat_cmp_total nat_cmp-IsAntisymmetric _ _ (λ q.
       get-remove nat_cmp_total m k q ∙ none_there (eq_by_cmp nat_cmp q k) (get m q) (λ e. ap (get m) (same_key q k e) ∙ none))
+
+  below_is : (k : ℕ) (es : List (ℕ × X)) → AllByRecursion (λ q. nat_cmp k q ≡ Less) (keys_of es) → below_all nat_cmp k es ≡ true
+  below_is k [] below = refl
+  below_is k (e ∷ es) below = (λ i. is_lt (below.0 i) && below_is k es below.1 i)
+
+  sorted_is : (es : List (ℕ × X)) → IsStrictlySortedBy nat_cmp (keys_of es) → is_sorted nat_cmp es ≡ true
+  unfolding IsStrictlySortedBy
+  sorted_is [] ordered = refl
+  sorted_is (e ∷ es) ordered = (λ i. below_is e.0 es ordered.0 i && sorted_is es ordered.1 i)
+
+  -- entries in order are those of their map
+  pub entries-from_entries : (es : List (ℕ × X)) (m : FinMap nat_cmp X) → from_entries es ≡ m → IsStrictlySortedBy nat_cmp (keys_of es) → es ≡ entries m
+  entries-from_entries es m view ordered =
+      let sorted : T (is_sorted nat_cmp es) = subst T (sym (sorted_is es ordered)) tt in
+      let same : from_entries {R = nat_cmp} es ≡ from_sorted es = same_map nat_cmp_total nat_cmp-IsAntisymmetric _ _ (λ q. get-from_entries nat_cmp_total es q ∙ sym (get-from_sorted nat_cmp es q sorted)) in
+      sym (entries-from_sorted nat_cmp es sorted) ∙ sym (ap entries same) ∙ ap entries view

@@ -1,6 +1,5 @@
 -- How the rows of an image lie in client memory.
-use Prim.Native.Nat.{zero, suc}
-use Rattle.std.proofs.Common.{◌≡◌, ◌≤◌, ◌<◌, ◌∙◌, ℕ, ◌+◌, ◌-◌, ◌*◌, ◌/◌, ◌%◌, arith, ap, sym, subst, refl}
+use Rattle.std.proofs.Common.{◌≤◌, ℕ, ◌+◌, ◌-◌, arith}
 use Rattle.std.proofs.lemmas.Nat.{div-add-mod', mod_below}
 use Rattle.gl_base.specs.PixelSizes.{row_step}
 

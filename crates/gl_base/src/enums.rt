@@ -1,4 +1,4 @@
-//! The constants of OpenGL ES 2.0 that are built so far, by their names (the header gl2.h of the standard).
+//! Constants of OpenGL ES 2.0, by their names (the header gl2.h of the standard).
 
 use crate::gl_enum::GlEnum;
 

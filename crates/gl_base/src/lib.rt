@@ -8,6 +8,7 @@ mod gl_enum;
 pub mod limits;
 mod names;
 mod number_map;
+pub mod query_enums;
 pub mod raster_enums;
 mod rect;
 pub mod target_enums;

@@ -63,3 +63,9 @@ pub const LAST_STENCIL: u32 = 255;
 
 /// The last level of a texture's images, which has one pixel where level 0 has the greatest sides (section 3.7.1).
 pub const LAST_LEVEL: u32 = 11;
+
+/// How many vectors the uniforms of a shader can have (MAX_VERTEX_UNIFORM_VECTORS and MAX_FRAGMENT_UNIFORM_VECTORS are 128).
+pub const UNIFORM_VECTORS: u32 = 128;
+
+/// How many vectors the varyings of a program can have (MAX_VARYING_VECTORS is 8).
+pub const VARYING_VECTORS: u32 = 8;

@@ -1,5 +1,6 @@
 //! Maps from numbers to values, which contracts see as finite maps.
-ghost use Rattle.std.specs.Prelude.{◌≡◌, OnOk, OnErr, IfOk, IfErr, IfNone, None, IsTrue, ◌↔◌};
+ghost use Rattle.std.specs.Prelude.{ℕ, ◌≡◌, OnOk, OnErr, IfOk, IfErr, IfNone, None, Some, IsTrue, ◌↔◌, All};
+ghost use Rattle.std.specs.Map.Iter.{ShowsInOrder, deref_pair};
 ghost use Rattle.std.specs.Ordering.{nat_cmp};
 ghost use Rattle.std.specs.FinMap as map;
 ghost use Rattle.std.specs.Option.{option_copied, option_copied_mut};
@@ -9,6 +10,7 @@ ghost use Rattle.gl_base.specs.Lent.{lends_value};
 
 use std::alloc::{AllocFailed, Global};
 use std::collections::BTreeMap;
+use std::collections::btree_map::Iter;
 use std::marker::Model;
 
 /// A map from numbers, seen as a finite map.
@@ -58,6 +60,15 @@ impl<T> NumberMap<T> {
         ensures { result ≡ map.len self.now }
     {
         self.entries.len()
+    }
+
+    /// The keys with their values, by rising keys.
+    pub fn iter(&self) -> Iter<'_, u64, T>
+        ensures rest { result ≡ map.entries self.now }
+        ensures runs { ShowsInOrder (deref_pair {K = ℕ} {X = T}) }
+        ensures found { All (λ e. map.get self.now e.0 ≡ Some e.1) (map.entries self.now) }
+    {
+        self.entries.iter()
     }
 
     /// Whether no key has a value.

@@ -22,13 +22,13 @@ use Rattle.gl_plain.specs.subjects.Programs.{ProgramTables, number_of, program_a
 use Rattle.gl_plain.specs.subjects.Raster.{is_driver_raster}
 use Rattle.gl_plain.specs.subjects.Uniforms.{is_nowhere}
 use Rattle.gl_plain.specs.subjects.Draws.{Sources, check_arrays, check_indexed}
-use Rattle.gl_plain.specs.Oracle.{Oracle, default_answers, first}
+use Rattle.gl_plain.specs.Oracle.{Oracle, first}
 use Rattle.gl_plain.specs.State.{EsState, WireState, DriverState, sources_of}
 use Rattle.gl_plain.specs.Spaces.{Space, Buffers, Textures, Renderbuffers, Framebuffers, gen_call, numbers_in}
-use Rattle.gl_plain.specs.Wire.{is_bad, calls_by, command_calls, command_refusal, own_calls, whole_first, zeroed}
+use Rattle.gl_plain.specs.Wire.{is_bad, calls_by, command_calls, command_refusal, own_calls, whole_first}
 use Rattle.gl_plain.specs.Journal.{IsLegal, records_in, entry_after, state_after}
 use Rattle.gl_plain.specs.Parts.{calls_in}
-use Rattle.gl_plain.specs.Records.{Record, call_records, draw_records, own_records, records_by, step_records}
+use Rattle.gl_plain.specs.Records.{Record, call_records, own_records, records_by, step_records}
 use Rattle.gl_plain.specs.Agreement.{Agrees}
 use Rattle.gl_plain.specs.draw.Calls.{drawing_calls, own_draw_calls}
 use Rattle.gl_plain.specs.object.Calls.{bind_buffer_call, bind_framebuffer_call, bind_renderbuffer_call, bind_calls, bind_texture_call, link_program_calls, validate_program_calls, own_object_calls}
@@ -40,7 +40,7 @@ use Rattle.gl_plain.specs.subjects.Copies.{copy_rect, reads_nothing}
 use Rattle.gl_base.specs.Rects.{is_empty}
 use Rattle.gl_plain.specs.declared.driver_calls.ObjectDriver.TheVariants as calls
 use Rattle.gl_plain.specs.declared.commands.QueryCommand.{QueryCommand}
-use Rattle.gl_plain.specs.declared.commands.QueryCommand.TheVariants.{ReadPixels, GetError}
+use Rattle.gl_plain.specs.declared.commands.QueryCommand.TheVariants.{ReadPixels, GetError, Words, Bytes}
 use Rattle.gl_plain.specs.subjects.Buffers.{delete_buffers_calls}
 use Rattle.gl_plain.specs.subjects.Textures.{delete_textures_calls}
 use Rattle.gl_laws.proofs.Lists.{records-append}
@@ -184,6 +184,8 @@ images_few s (images.RenderbufferStorage target format width height) payload = f
 queries_few : (s : EsState) (c : QueryCommand) → AreFew (own_query_calls s c)
 queries_few s (ReadPixels words bucket) = few_unless (reads_nothing words) _
 queries_few s GetError = λ x xs h. absurd (cc)
+queries_few s (Words query) = λ x xs h. absurd (cc)
+queries_few s (Bytes query bucket) = λ x xs h. absurd (cc)
 
 no_more : (xs ys : List DriverCall) → xs ++ ys ≡ [] → ys ≡ []
 no_more [] ys h = h

@@ -12,7 +12,7 @@ use Rattle.gl_plain.specs.declared.commands.ImageCommand.TheVariants.{TexImage2D
 use Rattle.gl_plain.specs.declared.commands.ObjectCommand.{ObjectCommand}
 use Rattle.gl_plain.specs.declared.commands.ObjectCommand.TheVariants.{BindBuffer, BufferData, BindTexture, BindRenderbuffer, BindFramebuffer, DeleteShader, LinkProgram, ValidateProgram, DeleteProgram}
 use Rattle.gl_plain.specs.declared.commands.QueryCommand.{QueryCommand}
-use Rattle.gl_plain.specs.declared.commands.QueryCommand.TheVariants.{ReadPixels, GetError}
+use Rattle.gl_plain.specs.declared.commands.QueryCommand.TheVariants.{ReadPixels, GetError, Words, Bytes}
 use Rattle.gl_plain.specs.declared.driver_calls.Answer.{Answer}
 use Rattle.gl_plain.specs.declared.driver_calls.DriverCall.{DriverCall}
 use Rattle.gl_plain.specs.declared.driver_calls.DriverCall.TheVariants as driver
@@ -142,6 +142,8 @@ module _ (p : ℕ → List ℕ) (o : Oracle) where
   query_blind : (s : EsState) (c : QueryCommand) → reads_pixels None (Query c) ≡ false → query_step s c (with_pixels p o) ≡ on_pixels p (query_step s c o)
   query_blind s (ReadPixels words bucket) none = nothing_read (reads_nothing words) _ _ _ _ none refl
   query_blind s GetError none = refl
+  query_blind s (Words query) none = refl
+  query_blind s (Bytes query bucket) none = refl
 
   own_blind : (w : WireState) (c : Command) (payload : List ℕ) → reads_pixels None c ≡ false → own_step w c payload (with_pixels p o) ≡ on_pixels p (own_step w c payload o)
   own_blind w (Object c) payload none = λ i. on_wire (record w { covers = object_covers_blind w.es c w.covers i; marks = object_marks_blind w.es c w.marks i }) (object_blind w.es c payload i)

@@ -18,7 +18,7 @@ use Rattle.gl_plain.specs.declared.commands.Command.TheVariants.{Object, Image, 
 use Rattle.gl_plain.specs.declared.commands.ImageCommand.{ImageCommand}
 use Rattle.gl_plain.specs.declared.commands.ImageCommand.TheVariants.{TexImage2D, TexSubImage2D, CopyTexImage2D, CopyTexSubImage2D, TexParameteri, GenerateMipmap, RenderbufferStorage}
 use Rattle.gl_plain.specs.declared.commands.QueryCommand.{QueryCommand}
-use Rattle.gl_plain.specs.declared.commands.QueryCommand.TheVariants.{ReadPixels, GetError}
+use Rattle.gl_plain.specs.declared.commands.QueryCommand.TheVariants.{ReadPixels, GetError, Words, Bytes}
 use Rattle.gl_plain.specs.declared.image_words.CopyPartWords.{CopyPartWords}
 use Rattle.gl_plain.specs.declared.driver_calls.ObjectDriver.TheVariants as object_calls
 use Rattle.gl_plain.specs.declared.targets.AnyImage.{AnyImage}
@@ -363,6 +363,8 @@ module _ (x : AnyImage) where
   query_none : (s : EsState) (c : QueryCommand) → count_zeroes x (own_query_calls s c) ≡ 0
   query_none s (ReadPixels words bucket) = either_none (reads_nothing words) [] (driver.Image (calls.ReadPixels words.x words.y words.width words.height) ∷ []) refl refl
   query_none s GetError = refl
+  query_none s (Words query) = refl
+  query_none s (Bytes query bucket) = refl
 
   drawing_none : (call : ℕ → DriverCall) (check : Result DrawPlan GlError) → ((black : ℕ) → zeroes x (call black) ≡ 0) → count_zeroes x (drawing_calls call check) ≡ 0
   drawing_none call (Err e) h = refl
@@ -415,6 +417,8 @@ image_alone w c payload o = inl refl
 query_alone : (s : EsState) (c : QueryCommand) → StandsAlone (query_whole_first s c) (own_query_calls s c)
 query_alone s (ReadPixels words bucket) = unless_alone (reads_nothing words) (colour_images (target_of s.framebuffers)) (driver.Image (calls.ReadPixels words.x words.y words.width words.height))
 query_alone s GetError = inl refl
+query_alone s (Words query) = inl refl
+query_alone s (Bytes query bucket) = inl refl
 
 stands_alone : (w : WireState) (c : Command) (payload : List ℕ) (o : Oracle) → StandsAlone (whole_first w c) (own_calls w c payload o)
 stands_alone w (Image c) payload o = image_alone w c payload o

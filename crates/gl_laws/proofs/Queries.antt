@@ -1,31 +1,27 @@
--- The own laws of the queries: ReadPixels behind its zeroing, and GetError, which makes no driver call.
+-- The own laws of the queries: ReadPixels behind its zeroing, and the others, which make no driver call.
 use Prim.Native.Nat.{zero, suc}
-use Rattle.std.proofs.Common.{◌≡◌, ◌≢◌, ◌≤◌, ◌<◌, ◌+◌, ◌-◌, ◌*◌, ◌==◌, ◌&&◌, ◌||◌, ℕ, ℤ, Bool, true, false, not, nat_lt, if◌then◌else◌, List, [], ◌∷◌, ◌++◌, Option, None, Some, is_some, is_none, refl, sym, ap, ◌∙◌, subst, arith, mul_assoc, mul_comm, mul-le-mul, inl, inr}
-use Rattle.std.proofs.lemmas.Bool.Decides.{nat_tests, eqb_tells}
+use Rattle.std.proofs.Common.{◌≡◌, ◌≢◌, ◌≤◌, ◌<◌, ◌+◌, ◌-◌, ◌*◌, ◌==◌, ◌&&◌, ◌||◌, ℕ, ℤ, Bool, true, false, not, nat_lt, if◌then◌else◌, List, [], ◌∷◌, ◌++◌, None, is_some, is_none, refl, sym, ap, ◌∙◌, subst, arith, mul_assoc, mul_comm, mul-le-mul}
+use Rattle.std.proofs.lemmas.Bool.Decides.{nat_tests}
 use Rattle.std.proofs.Math.Nat.{suc-mul}
-use Rattle.gl_base.specs.declared.gl_enum.GlEnum.{GlEnum}
 use Rattle.gl_base.specs.declared.limits.TheConstants.{DATA_LIMIT}
 use Rattle.gl_base.specs.PixelSizes.{image_size, pixel_bytes, pixel_size, row_step}
 use Rattle.gl_base.proofs.Rows.{row_within}
 use Rattle.gl_base.specs.declared.texture_enums.TheConstants.{RGBA}
 use Rattle.gl_base.specs.declared.enums.TheConstants.{UNSIGNED_BYTE}
 use Rattle.gl_plain.specs.declared.commands.QueryCommand.{QueryCommand}
-use Rattle.gl_plain.specs.declared.commands.QueryCommand.TheVariants.{ReadPixels, GetError}
+use Rattle.gl_plain.specs.declared.commands.QueryCommand.TheVariants.{ReadPixels, GetError, Words, Bytes}
 use Rattle.gl_plain.specs.declared.driver_calls.Answer.{Answer}
 use Rattle.gl_plain.specs.declared.driver_calls.Answer.TheVariants.{Done, Name, Oom, Compile, Link, Validate, Pixels}
 use Rattle.gl_plain.specs.declared.driver_calls.DriverCall.{DriverCall}
 use Rattle.gl_plain.specs.declared.driver_calls.DriverCall.TheVariants.{Image}
 use Rattle.gl_plain.specs.declared.driver_calls.ImageDriver.TheVariants as calls
 use Rattle.gl_plain.specs.declared.driver_calls.DriverEntry.{DriverEntry}
-use Rattle.gl_plain.specs.declared.errors.GlError.{GlError}
 use Rattle.gl_plain.specs.declared.errors.GlError.TheVariants.{InvalidEnum, InvalidValue, InvalidOperation, InvalidFramebufferOperation, OutOfMemory}
 use Rattle.gl_plain.specs.declared.image_words.ReadWords.{ReadWords}
 use Rattle.gl_plain.specs.declared.raster.WordRule.TheVariants.{Alignment}
-use Rattle.gl_plain.specs.declared.targets.AnyImage.{AnyImage}
-use Rattle.gl_plain.specs.declared.targets.Target.{Target}
 use Rattle.gl_plain.specs.declared.targets.Target.TheVariants as target
 use Rattle.gl_plain.specs.subjects.Raster.{IsAligned, is_wrong_value}
-use Rattle.gl_plain.specs.subjects.Images.{AreWritten, Contents, counted, Covers, IsColourWritten, IsScreenWritten, Marks, read_contents}
+use Rattle.gl_plain.specs.subjects.Images.{AreWritten, Contents, counted, Covers, IsScreenWritten, Marks, read_contents}
 use Rattle.gl_plain.specs.subjects.Targets.{Drawable, colour_images, colour_view, is_incomplete, target_of}
 use Rattle.gl_plain.specs.subjects.Copies.{IsReadAllowed, fitted, read_bytes, is_any_pixel, is_over_data_limit, is_read_format, read_count, read_pixels_refusal, reads_nothing}
 use Rattle.gl_plain.specs.Words.{is_negative, natural}
@@ -37,7 +33,7 @@ use Rattle.gl_plain.specs.driver.Allowed.{IsAllowed}
 use Rattle.gl_plain.specs.driver.Answers.{told}
 use Rattle.gl_plain.specs.Journal.{IsLegal, records_in, state_after}
 use Rattle.gl_plain.specs.Parts.{calls_in}
-use Rattle.gl_plain.specs.Records.{PixelsRead, ReadRecord, Record, query_contents, query_records, read_record}
+use Rattle.gl_plain.specs.Records.{ReadRecord, Record, query_contents, query_records, read_record}
 use Rattle.gl_plain.specs.Agreement.{ImagesAgree, TablesAgree}
 use Rattle.gl_plain.specs.query.Calls.{own_query_calls, query_whole_first}
 use Rattle.gl_plain.specs.query.Refusal.{query_command_refusal}
@@ -205,9 +201,15 @@ module _ (s : EsState) (d : DriverState) (a : TablesAgree s d.tables) (aligned :
   pub query_may : (c : QueryCommand) → query_command_refusal s c ≡ None → IsScreenWritten d.contents.screen → AreWritten s.textures.objects s.renderbuffers.objects d.contents (query_whole_first s c) → QueryMayGoOn s d c
   query_may (ReadPixels words bucket) allowed screen all = read_may words bucket (fine_read (drawable_of s) s.alignments.pack aligned.pack words allowed) screen all
   query_may GetError allowed screen all = λ es next more h. absurd (not_nil (calls_in es) next more h)
+  query_may (Words query) allowed screen all = λ es next more h. absurd (not_nil (calls_in es) next more h)
+  query_may (Bytes query bucket) allowed screen all = λ es next more h. absurd (not_nil (calls_in es) next more h)
 
   pub query_leaves : (c : QueryCommand) → query_command_refusal s c ≡ None → (f : Covers) (m : Marks) → ImagesAgree s.textures.objects s.renderbuffers.objects f m d.contents
       → AreWritten s.textures.objects s.renderbuffers.objects d.contents (query_whole_first s c) → QueryLeaves s d f m c
   query_leaves (ReadPixels words bucket) allowed f m agree all = read_leaves words bucket (fine_read (drawable_of s) s.alignments.pack aligned.pack words allowed) agree.screen f m agree all
   query_leaves GetError allowed f m agree all = λ o es l h. no_entry (λ (gs : List DriverEntry). QueryLeft s d f m GetError (told gs o) o gs)
       (record { asked = refl; tables = with_errors s d.tables _ a; images = agree; aligned = refl; contents = refl; records = refl }) es h
+  query_leaves (Words query) allowed f m agree all = λ o es l h. no_entry (λ (gs : List DriverEntry). QueryLeft s d f m (Words query) (told gs o) o gs)
+      (record { asked = refl; tables = a; images = agree; aligned = refl; contents = refl; records = refl }) es h
+  query_leaves (Bytes query bucket) allowed f m agree all = λ o es l h. no_entry (λ (gs : List DriverEntry). QueryLeft s d f m (Bytes query bucket) (told gs o) o gs)
+      (record { asked = refl; tables = a; images = agree; aligned = refl; contents = refl; records = refl }) es h

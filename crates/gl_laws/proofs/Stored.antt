@@ -15,7 +15,7 @@ use Rattle.gl_plain.specs.declared.commands.DrawCommand.TheVariants.{Clear, Draw
 use Rattle.gl_plain.specs.declared.commands.ImageCommand.{ImageCommand}
 use Rattle.gl_plain.specs.declared.commands.ImageCommand.TheVariants.{TexImage2D, TexSubImage2D, CopyTexImage2D, CopyTexSubImage2D, TexParameteri, GenerateMipmap, RenderbufferStorage}
 use Rattle.gl_plain.specs.declared.commands.QueryCommand.{QueryCommand}
-use Rattle.gl_plain.specs.declared.commands.QueryCommand.TheVariants.{ReadPixels, GetError}
+use Rattle.gl_plain.specs.declared.commands.QueryCommand.TheVariants.{ReadPixels, GetError, Words, Bytes}
 use Rattle.gl_plain.specs.declared.draws.DrawPlan.{DrawPlan}
 use Rattle.gl_plain.specs.declared.errors.GlError.{GlError}
 use Rattle.gl_plain.specs.declared.errors.GlError.TheVariants.{InvalidEnum, InvalidFramebufferOperation, InvalidValue, OutOfMemory}
@@ -166,6 +166,8 @@ module _ (s : EsState) where
   query_stored_first (ReadPixels words bucket) fine = stored_unless s.renderbuffers.objects (reads_nothing words) (colour_images (drawable_of s).target)
       (colours_of_complete (fourth_none _ _ _ _ InvalidEnum InvalidValue OutOfMemory InvalidFramebufferOperation _ fine))
   query_stored_first GetError fine = tt
+  query_stored_first (Words query) fine = tt
+  query_stored_first (Bytes query bucket) fine = tt
 
 -- the renderbuffers that a command needs written whole are there, and have pixels
 pub whole_first_stored : (w : WireState) (c : Command) (payload : List ℕ) → command_refusal w.es c payload ≡ None → AreStored w.es.renderbuffers.objects (whole_first w c)

@@ -21,12 +21,8 @@ use Rattle.gl_plain.specs.subjects.Buffers.{BufferTables, no_buffers, bound, gen
 use Rattle.gl_plain.specs.subjects.Attributes.{no_arrays, attribute, attribute_refusal, array_of, vertex_attrib_4f_effect, vertex_attrib_pointer_effect, vertex_attrib_pointer_refusal, set_array_effect, all_outside}
 use Rattle.gl_plain.specs.Errors.{no_errors, noted, least, cleared, code_given}
 use Rattle.gl_plain.specs.State.{opening_wire}
-use Rattle.gl_plain.specs.Commands.{command_in, is_known}
+use Rattle.gl_plain.specs.Commands.{command_in}
 use Rattle.gl_plain.specs.Wire.{is_bad}
-
--- which commands are built so far
-built : (is_known 0 ≡ true) × (is_known 1 ≡ true) × (is_known 2 ≡ true) × (is_known 5 ≡ true) × (is_known 6 ≡ false) × (is_known 256 ≡ true) × (is_known 266 ≡ true) × (is_known 267 ≡ true) × (is_known 269 ≡ true) × (is_known 270 ≡ true) × (is_known 279 ≡ true) × (is_known 280 ≡ true) × (is_known 292 ≡ true) × (is_known 296 ≡ true) × (is_known 297 ≡ true) × (is_known 323 ≡ true) × (is_known 324 ≡ true) × (is_known 325 ≡ true) × (is_known 327 ≡ true) × (is_known 328 ≡ false)
-built = (refl, refl, refl, refl, refl, refl, refl, refl, refl, refl, refl, refl, refl, refl, refl, refl, refl, refl, refl, refl)
 
 abbrev enum : ℕ → GlEnum
 enum n = record { 0 = n }
@@ -35,6 +31,10 @@ enum n = record { 0 = n }
 spelled_words : command_in 259 (0x8892 ∷ 0xFFFFFFFF ∷ 0x88E4 ∷ 0 ∷ 0 ∷ 0 ∷ 0 ∷ [])
     ≡ Some (Object (command.BufferData (enum 0x8892) (negsuc 0) (enum 0x88E4) (record { source = 0; count = 0; a = 0; b = 0 })))
 spelled_words = refl
+
+-- a form, a kind or a count that is none spells no query, and neither does a number behind the last
+no_queries : (command_in 328 (3 ∷ 0x0BA2 ∷ []) ≡ None) × (command_in 341 (1 ∷ 0 ∷ 1 ∷ []) ≡ None) × (command_in 342 (6 ∷ 1 ∷ []) ≡ None) × (command_in 344 (0 ∷ 0xFFFFFFFF ∷ 0x1401 ∷ []) ≡ None) × (command_in 344 (0 ∷ 1 ∷ 0x1402 ∷ []) ≡ None) × (command_in 345 [] ≡ None)
+no_queries = (refl, refl, refl, refl, refl, refl)
 
 -- ids on both sides of the limits
 ordinary_ids : (bind_buffer_is_bad 0 ≡ false) × (bind_buffer_is_bad 1 ≡ false) × (bind_buffer_is_bad 0xFFFFFEFF ≡ false) × (bind_buffer_is_bad 0xFFFFFF00 ≡ false) × (bind_buffer_is_bad 0xFFFFFF10 ≡ false) × (bind_buffer_is_bad 0xFFFFFF11 ≡ true)

@@ -3,7 +3,6 @@ use Rattle.std.proofs.Common.{◌≡◌, ◌≢◌, inl, inr, ℕ, Bool, true, f
 use Rattle.std.specs.Prelude.{map}
 use Prim.Native.Nat.{zero, suc}
 use Rattle.std.specs.FinMap as table
-use Rattle.std.specs.Ordering.{nat_cmp}
 use Rattle.std.proofs.lemmas.Bool.Decides.{eqb_tells}
 use Rattle.gl_base.proofs.Found.{get-insert_here, get-insert_other, found-insert, get-remove_other, found-remove, test}
 use Rattle.gl_plain.specs.declared.objects.Name.{Name}

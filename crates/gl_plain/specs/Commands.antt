@@ -1,5 +1,5 @@
 -- The commands, as their numbers and words spell them.
-use Rattle.std.specs.Prelude.{ℕ, Bool, ◌==◌, if◌then◌else◌, List, [], slice_index, Option, None, Some, is_some}
+use Rattle.std.specs.Prelude.{ℕ, ◌==◌, if◌then◌else◌, List, slice_index, Option, None, Some}
 use Rattle.gl_plain.specs.declared.numbers.TheConstants.{NOOP, SET_TOKEN, SET_BUCKET_SIZE, SET_BUCKET_DATA, GET_BUCKET_START, GET_BUCKET_DATA}
 use Rattle.gl_plain.specs.declared.commands.Command.{Command}
 use Rattle.gl_plain.specs.declared.commands.Command.TheVariants.{Noop, SetToken, Bucket, Object, Image, Draw, Query}
@@ -34,7 +34,7 @@ command_by None None None (Some c) q = Some (Draw c)
 command_by None None None None (Some c) = Some (Query c)
 command_by None None None None None = None
 
--- the command that a number and words spell, or none where the number is that of no command that is built so far
+-- the command that a number and words spell, or none
 abbrev pub command_in : ℕ → List ℕ → Option Command
 command_in number words =
     if number == NOOP then Some Noop
@@ -44,7 +44,3 @@ command_in number words =
 -- the command that a fetched one spells
 abbrev pub command_of : Fetched → Option Command
 command_of f = command_in f.number f.words.items
-
--- the commands that are built so far
-abbrev pub is_known : ℕ → Bool
-is_known number = is_some (command_in number [])

@@ -1,6 +1,6 @@
 -- What the zeroings of a command are for: each turns a place that was never written to zero, in an image that the command uses, and stands only
 -- before the command's own driver call.
-use Rattle.std.specs.Prelude.{◌≡◌, ◌≤◌, ◌<◌, ◌+◌, ◌⊎◌, ℕ, Bool, true, false, ◌||◌, ◌==◌, if◌then◌else◌, List, [], ◌∷◌, ◌++◌, map, Option, None, Some, MatchBool}
+use Rattle.std.specs.Prelude.{◌≡◌, ◌≤◌, ◌<◌, ◌+◌, ◌⊎◌, ℕ, Bool, true, false, ◌||◌, ◌==◌, if◌then◌else◌, List, [], ◌∷◌, ◌++◌, map, Option, None, Some}
 use Rattle.gl_base.specs.declared.rect.Rect.{Rect}
 use Rattle.gl_base.specs.Rects.{has, IsIn, whole}
 use Rattle.gl_plain.specs.declared.textures.LevelView.{LevelView}
@@ -11,7 +11,6 @@ use Rattle.gl_plain.specs.declared.commands.Command.{Command}
 use Rattle.gl_plain.specs.declared.commands.Command.TheVariants.{Noop, SetToken, Bucket, Object, Image, Draw, Query}
 use Rattle.gl_plain.specs.declared.commands.ImageCommand.{ImageCommand}
 use Rattle.gl_plain.specs.declared.commands.ImageCommand.TheVariants.{TexImage2D, TexSubImage2D, CopyTexImage2D, CopyTexSubImage2D, TexParameteri, GenerateMipmap, RenderbufferStorage}
-use Rattle.gl_plain.specs.declared.commands.Fetched.{Fetched}
 use Rattle.gl_plain.specs.declared.driver_calls.DriverCall.{DriverCall}
 use Rattle.gl_plain.specs.declared.driver_calls.DriverCall.TheVariants as driver
 use Rattle.gl_plain.specs.declared.driver_calls.ImageDriver.{ImageDriver}
@@ -25,7 +24,7 @@ use Rattle.gl_plain.specs.subjects.Copies.{copy_rect, copy_part_place}
 use Rattle.gl_plain.specs.image.Covers.{part_place}
 use Rattle.gl_plain.specs.query.Calls.{query_whole_first}
 use Rattle.gl_plain.specs.draw.Calls.{draw_whole_first}
-use Rattle.gl_plain.specs.State.{EsState, WireState, DriverState, sources_of}
+use Rattle.gl_plain.specs.State.{EsState, DriverState, sources_of}
 use Rattle.gl_plain.specs.Journal.{entry_after}
 use Rattle.gl_plain.specs.Parts.{calls_in}
 

@@ -1,5 +1,5 @@
 -- What commands draw, clear, copy, reduce and read, by contents and not by names; and what they leave of the contents of images.
-use Rattle.std.specs.Prelude.{ℕ, ℤ, Bool, true, false, ◌==◌, ◌||◌, if◌then◌else◌, List, [], ◌∷◌, ◌++◌, map, Option, None, Some, Result, Ok, Err}
+use Rattle.std.specs.Prelude.{ℕ, ℤ, ◌==◌, ◌||◌, if◌then◌else◌, List, [], ◌∷◌, ◌++◌, map, Option, None, Some, Result, Ok, Err}
 use Rattle.gl_plain.specs.declared.errors.GlError.{GlError}
 use Rattle.gl_plain.specs.declared.commands.Command.{Command}
 use Rattle.gl_plain.specs.declared.commands.Command.TheVariants.{Noop, SetToken, Bucket, Object, Image, Draw, Query}
@@ -30,7 +30,7 @@ use Rattle.gl_plain.specs.Oracle.{Oracle, first}
 use Rattle.gl_base.specs.declared.target_enums.TheConstants.{NONE}
 use Rattle.gl_base.specs.Rects.{is_empty}
 use Rattle.gl_plain.specs.declared.commands.QueryCommand.{QueryCommand}
-use Rattle.gl_plain.specs.declared.commands.QueryCommand.TheVariants.{ReadPixels, GetError}
+use Rattle.gl_plain.specs.declared.commands.QueryCommand.TheVariants.{ReadPixels, GetError, Words, Bytes}
 use Rattle.gl_plain.specs.declared.driver_calls.Answer.TheVariants as answers
 use Rattle.gl_plain.specs.declared.driver_calls.ImageDriver.{ImageDriver}
 use Rattle.gl_plain.specs.declared.driver_calls.ImageDriver.TheVariants as images
@@ -231,11 +231,15 @@ image_records s (RenderbufferStorage target format width height) o k = []
 abbrev pub query_contents : QueryCommand → Contents → Contents
 query_contents (ReadPixels words bucket) k = if reads_nothing words then k else counted k
 query_contents GetError k = k
+query_contents (Words query) k = k
+query_contents (Bytes query bucket) k = k
 
 -- what a query records
 abbrev pub query_records : EsState → QueryCommand → Contents → List Record
 query_records s (ReadPixels words bucket) k = if reads_nothing words then [] else read_record (drawable_of s) k words.x words.y words.width words.height ∷ []
 query_records s GetError k = []
+query_records s (Words query) k = []
+query_records s (Bytes query bucket) k = []
 
 -- what a command that is not refused leaves of the contents
 abbrev pub own_contents : EsState → Command → List ℕ → Oracle → Contents → Contents

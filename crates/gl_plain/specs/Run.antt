@@ -1,5 +1,5 @@
 -- Runs of many commands.
-use Rattle.std.specs.Prelude.{ℕ, if◌then◌else◌, List, [], ◌∷◌, ◌++◌, Option, None, Some}
+use Rattle.std.specs.Prelude.{ℕ, if◌then◌else◌, List, [], ◌∷◌, ◌++◌, Option, Some}
 use Rattle.gl_plain.specs.declared.calls.Reply.{Reply}
 use Rattle.gl_plain.specs.declared.commands.Fetched.{Fetched}
 use Rattle.gl_plain.specs.declared.commands.Malformed.TheVariants.{InvalidArguments}

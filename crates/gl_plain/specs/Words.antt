@@ -1,5 +1,5 @@
 -- Words of commands as arguments, and signed numbers.
-use Rattle.std.specs.Prelude.{ℕ, ℤ, pos, negsuc, Bool, true, false, not, ◌+◌, ◌==◌, List, slice_index}
+use Rattle.std.specs.Prelude.{ℕ, ℤ, pos, negsuc, Bool, true, false, not, ◌+◌, ◌%◌, ◌^◌, ◌==◌, List, slice_index}
 use Rattle.std.specs.Int.{cast_signed, w32}
 use Rattle.gl_base.specs.declared.gl_enum.GlEnum.{GlEnum}
 use Rattle.gl_base.specs.declared.float_bits.FloatBits.{FloatBits}
@@ -20,6 +20,10 @@ is_negative (negsuc n) = true
 abbrev pub natural : ℤ → ℕ
 natural (pos n) = n
 natural (negsuc n) = 0
+
+-- a count as a word of 32 bits
+abbrev pub as_word : ℕ → ℕ
+as_word n = n % 2 ^ 32
 
 -- a word as an enum
 abbrev pub enum_at : List ℕ → ℕ → GlEnum

@@ -19,3 +19,6 @@ pub mod Copies
 pub mod Raster
 pub mod Draws
 pub mod Clears
+pub mod Values
+pub mod Parameters
+pub mod ProgramQueries

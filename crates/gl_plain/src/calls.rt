@@ -1,6 +1,9 @@
 //! The calls of OpenGL ES, and their replies.
 
-use crate::{Bytes, CopyPartWords, CopyWords, ImageWords, PartWords, ReadWords, Seq, Words};
+use crate::{
+    ByteQuery, Bytes, CopyPartWords, CopyWords, ImageWords, PartWords, ReadWords, Seq, WordQuery,
+    Words,
+};
 use gl_base::{FloatBits, GlEnum};
 
 /// The data that a call is given.
@@ -223,6 +226,8 @@ pub enum DrawCall {
 pub enum QueryCall {
     ReadPixels { words: ReadWords },
     GetError,
+    Words(WordQuery),
+    Bytes(ByteQuery),
 }
 
 /// A call of OpenGL ES 2.0.
@@ -241,6 +246,7 @@ pub enum Call {
 pub enum Reply {
     None,
     Word(u32),
+    Words(Words),
     Names(Names),
     Bytes(Bytes),
     /// An error code, or 0 for NO_ERROR.

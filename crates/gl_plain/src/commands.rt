@@ -1,7 +1,9 @@
 //! Commands, as they are read from the ring and as their words spell them.
 ghost use Rattle.std.specs.Prelude.{◌≡◌};
 
-use crate::{Bytes, CopyPartWords, CopyWords, ImageWords, PartWords, ReadWords};
+use crate::{
+    ByteQuery, Bytes, CopyPartWords, CopyWords, ImageWords, PartWords, ReadWords, WordQuery,
+};
 use arrayvec::ArrayVec;
 use gl_base::{FloatBits, GlEnum};
 
@@ -295,6 +297,9 @@ pub enum QueryCommand {
     /// ReadPixels, whose pixels go into a bucket.
     ReadPixels { words: ReadWords, bucket: u32 },
     GetError,
+    Words(WordQuery),
+    /// The bytes go into a bucket.
+    Bytes { query: ByteQuery, bucket: u32 },
 }
 
 /// A command, as its number and its words spell it.
@@ -408,8 +413,10 @@ impl Command {
         ensures { result ≡ reply_bucket self }
     {
         match self {
-            Command::Query(QueryCommand::ReadPixels { bucket, .. }) => Some(bucket),
-            Command::Query(QueryCommand::GetError)
+            Command::Query(
+                QueryCommand::ReadPixels { bucket, .. } | QueryCommand::Bytes { bucket, .. },
+            ) => Some(bucket),
+            Command::Query(QueryCommand::GetError | QueryCommand::Words(_))
             | Command::Noop
             | Command::SetToken { .. }
             | Command::Bucket(_)

@@ -1,9 +1,11 @@
 //! What the rules of draws look at (OpenGL ES 2.0.25, sections 2.8, 3.7 and 4.4).
 ghost use Rattle.std.specs.Prelude.{◌≡◌};
+ghost use Rattle.gl_plain.specs.subjects.Draws as d;
 ghost use Rattle.gl_plain.specs.subjects.Draws.{no_draw, samples_cube};
 
 use crate::ArraySpec;
 use gl_base::GlEnum;
+use gl_base::enums::{UNSIGNED_BYTE, UNSIGNED_SHORT};
 
 /// The indices of a draw.
 #[derive(Clone, Copy, Debug, PartialEq, Eq)]
@@ -11,6 +13,13 @@ pub struct IndexView {
     pub kind: GlEnum,
     /// The greatest index, or None where no buffer is bound or the indices are not inside it.
     pub last: Option<u32>,
+}
+
+/// Whether indices can be of this kind: UNSIGNED_BYTE or UNSIGNED_SHORT.
+pub fn is_index_kind(kind: GlEnum) -> bool
+    ensures { result ≡ d.is_index_kind kind }
+{
+    kind == UNSIGNED_BYTE || kind == UNSIGNED_SHORT
 }
 
 /// The array of a vertex attribute.

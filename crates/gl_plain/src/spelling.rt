@@ -3,8 +3,7 @@ ghost use Rattle.std.specs.Prelude.{◌≡◌, ◌≤◌, slice_index};
 ghost use Rattle.gl_plain.specs.object.Commands.{object_command_in, program_command_in, target_command_in};
 ghost use Rattle.gl_plain.specs.image.Commands.{image_command_in};
 ghost use Rattle.gl_plain.specs.draw.Commands.{draw_command_in};
-ghost use Rattle.gl_plain.specs.query.Commands.{query_command_in};
-ghost use Rattle.gl_plain.specs.Commands.{bucket_command_in, command_in, is_known};
+ghost use Rattle.gl_plain.specs.Commands.{bucket_command_in, command_in};
 
 use crate::numbers::{
     ACTIVE_TEXTURE, ATTACH_SHADER, BIND_ATTRIB_LOCATION, BIND_BUFFER, BIND_FRAMEBUFFER,
@@ -14,19 +13,19 @@ use crate::numbers::{
     DETACH_SHADER, DISABLE_VERTEX_ATTRIB_ARRAY, DRAW_ARRAYS, DRAW_ELEMENTS, ENABLE,
     ENABLE_VERTEX_ATTRIB_ARRAY, FINISH, FLUSH, FRAMEBUFFER_RENDERBUFFER, FRAMEBUFFER_TEXTURE_2D,
     GEN_BUFFERS, GEN_FRAMEBUFFERS, GEN_RENDERBUFFERS, GEN_TEXTURES, GENERATE_MIPMAP,
-    GET_BUCKET_DATA, GET_BUCKET_START, GET_ERROR, LINK_PROGRAM, NOOP, READ_PIXELS,
-    RENDERBUFFER_STORAGE, SET_BUCKET_DATA, SET_BUCKET_SIZE, SET_TOKEN, SHADER_SOURCE, TEX_IMAGE_2D,
-    TEX_PARAMETERI, TEX_SUB_IMAGE_2D, UNIFORM, USE_PROGRAM, VALIDATE_PROGRAM, VERTEX_ATTRIB_4F,
-    VERTEX_ATTRIB_POINTER, VIEWPORT,
+    GET_BUCKET_DATA, GET_BUCKET_START, LINK_PROGRAM, NOOP, RENDERBUFFER_STORAGE, SET_BUCKET_DATA,
+    SET_BUCKET_SIZE, SET_TOKEN, SHADER_SOURCE, TEX_IMAGE_2D, TEX_PARAMETERI, TEX_SUB_IMAGE_2D,
+    UNIFORM, USE_PROGRAM, VALIDATE_PROGRAM, VERTEX_ATTRIB_4F, VERTEX_ATTRIB_POINTER, VIEWPORT,
 };
+use crate::query_spelling::query_command;
 use crate::{
     ArrayWords, BucketCommand, Command, CopyPartWords, CopyWords, DataWords, DrawCommand, Fetched,
-    ImageCommand, ImageWords, ObjectCommand, PartWords, QueryCommand, ReadWords,
+    ImageCommand, ImageWords, ObjectCommand, PartWords, ReadWords,
 };
 use gl_base::{FloatBits, GlEnum};
 
 /// The word at a place, or 0 behind the last.
-fn word(words: &[u32], at: usize) -> u32
+pub fn word(words: &[u32], at: usize) -> u32
     ensures { result ≡ slice_index words.now at }
 {
     match words.get(at) {
@@ -153,7 +152,7 @@ impl ReadWords {
     ghost use Rattle.gl_plain.specs.Words.{read_at};
 
     /// The words of ReadPixels before its bucket.
-    fn read(words: &[u32]) -> ReadWords
+    pub fn read(words: &[u32]) -> ReadWords
         ensures { result ≡ read_at words.now }
     {
         ReadWords {
@@ -410,22 +409,7 @@ fn draw_command(number: u32, words: &[u32]) -> Option<DrawCommand>
     }
 }
 
-/// The query that a number and words spell, or none.
-fn query_command(number: u32, words: &[u32]) -> Option<QueryCommand>
-    ensures { result ≡ query_command_in number words.now }
-{
-    match number {
-        READ_PIXELS => Some(QueryCommand::ReadPixels {
-            words: ReadWords::read(words),
-            bucket: word(words, 6),
-        }),
-        GET_ERROR => Some(QueryCommand::GetError),
-        _ => None,
-    }
-}
-
-/// The command that a number and words spell, or none where the number is that of no command that is built so far. Words behind the last
-/// one count as 0.
+/// The command that a number and words spell, or none. Words behind the last one count as 0.
 fn spelled(number: u32, words: &[u32]) -> Option<Command>
     ensures { result ≡ command_in number words.now }
 {
@@ -454,13 +438,6 @@ fn spelled(number: u32, words: &[u32]) -> Option<Command>
         Some(command) => Some(Command::Query(command)),
         None => None,
     }
-}
-
-/// Whether the number is that of a command that is built so far.
-pub fn is_known(number: u32) -> bool
-    ensures { result ≡ is_known number }
-{
-    spelled(number, &[]).is_some()
 }
 
 impl Fetched {

@@ -1,5 +1,6 @@
 //! Renderbuffers and framebuffers (OpenGL ES 2.0.25, section 4.4), as tables have them, and what is drawn to.
 ghost use Rattle.std.specs.Prelude.{◌≡◌, Some};
+ghost use Rattle.gl_plain.specs.subjects.Parameters.{attached_at};
 ghost use Rattle.gl_plain.specs.subjects.Targets as d;
 
 use crate::{ImagePlace, LevelView};
@@ -124,6 +125,17 @@ impl Framebuffer {
             colour: Attached::Nothing,
             depth: Attached::Nothing,
             stencil: Attached::Nothing,
+        }
+    }
+
+    /// What is attached at a point, which is one of the three.
+    pub fn attached(self, point: GlEnum) -> Attached
+        ensures { result ≡ attached_at self point }
+    {
+        match point {
+            COLOR_ATTACHMENT0 => self.colour,
+            DEPTH_ATTACHMENT => self.depth,
+            _ => self.stencil,
         }
     }
 

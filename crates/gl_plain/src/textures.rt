@@ -2,6 +2,7 @@
 ghost use Rattle.std.specs.Prelude.{◌≡◌, ◌≤◌, true, IfOk};
 ghost use Rattle.gl_base.specs.declared.limits.TheConstants.{LAST_LEVEL};
 ghost use Rattle.gl_plain.specs.subjects.Levels.{is_image_target, with_level, new_texture};
+ghost use Rattle.gl_plain.specs.subjects.Parameters.{parameter_of};
 ghost use Rattle.gl_plain.specs.subjects.Textures.{with_parameter, bound_in, with_number, unit_unbound, no_bindings, unit_at, bound_number, with_bound, all_unbound};
 
 use crate::Seq;
@@ -83,6 +84,18 @@ impl Texture {
         ensures done { self.new ≡ with_level self.old face level view }
     {
         self.levels.set(level_index(face, level), Some(view));
+    }
+
+    /// A parameter. Its name is one of the four.
+    pub fn parameter(&self, pname: GlEnum) -> GlEnum
+        ensures { result ≡ parameter_of self.now pname }
+    {
+        match pname {
+            TEXTURE_MIN_FILTER => self.min,
+            TEXTURE_MAG_FILTER => self.mag,
+            TEXTURE_WRAP_S => self.wrap_s,
+            _ => self.wrap_t,
+        }
     }
 
     /// Sets a parameter. Its name is one of the four.
@@ -180,6 +193,13 @@ impl TextureUnits {
         for index in 0..self.units.len() {
             self.units[index] = self.units[index].without(number);
         }
+    }
+
+    /// The active unit.
+    pub fn active(&self) -> u32
+        ensures { result ≡ self.now.active }
+    {
+        self.active
     }
 
     /// Has this unit be the active one.

@@ -1,6 +1,5 @@
 -- The driver calls of the commands on the fixed state, and of those that clear and draw, where they are not refused.
-use Rattle.std.specs.Prelude.{ℕ, ℤ, ◌==◌, if◌then◌else◌, List, [], ◌∷◌, Result, Ok, Err}
-use Rattle.gl_base.specs.declared.gl_enum.GlEnum.{GlEnum}
+use Rattle.std.specs.Prelude.{ℕ, ◌==◌, if◌then◌else◌, List, [], ◌∷◌, Result, Ok, Err}
 use Rattle.gl_plain.specs.declared.commands.DrawCommand.{DrawCommand}
 use Rattle.gl_plain.specs.declared.commands.DrawCommand.TheVariants.{ActiveTexture, Raster, Clear, DrawArrays, DrawElements, Flush, Finish}
 use Rattle.gl_plain.specs.declared.driver_calls.DriverCall.{DriverCall}

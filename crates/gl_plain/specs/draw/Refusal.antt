@@ -1,6 +1,6 @@
 -- The code that a call on the fixed state, or one that clears or draws, is refused with: the first whose condition holds, in the order
 -- INVALID_ENUM, INVALID_VALUE, OUT_OF_MEMORY by a limit, INVALID_FRAMEBUFFER_OPERATION, INVALID_OPERATION.
-use Rattle.std.specs.Prelude.{ℕ, Option, None}
+use Rattle.std.specs.Prelude.{Option, None}
 use Rattle.gl_plain.specs.declared.errors.GlError.{GlError}
 use Rattle.gl_plain.specs.declared.calls.DrawCall.{DrawCall}
 use Rattle.gl_plain.specs.declared.calls.DrawCall.TheVariants as calls

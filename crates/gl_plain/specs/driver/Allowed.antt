@@ -1,5 +1,5 @@
 -- The condition of every driver call.
-use Rattle.std.specs.Prelude.{◌≡◌, ◌≤◌, ◌⊎◌, ℕ, pos, true, false, length, Option, None, Some, IsSome, IsTrue}
+use Rattle.std.specs.Prelude.{◌≡◌, ◌≤◌, ◌⊎◌, pos, true, false, length, Option, None, Some, IsSome, IsTrue}
 use Rattle.std.specs.FinMap as map
 use Rattle.gl_base.specs.declared.limits.TheConstants.{LAST_ATTRIBUTE, LAST_UNIT, NAME_LENGTH_LIMIT}
 use Rattle.gl_plain.specs.declared.driver_calls.ObjectDriver.{ObjectDriver}
@@ -22,7 +22,7 @@ use Rattle.gl_plain.specs.subjects.Programs.{ProgramTables, is_shader_kind, atta
 use Rattle.gl_plain.specs.subjects.Uniforms.{IsUniformAllowed}
 use Rattle.gl_plain.specs.subjects.Raster.{IsSetRasterAllowed}
 use Rattle.gl_plain.specs.subjects.Clears.{IsClearAllowed}
-use Rattle.gl_plain.specs.subjects.Draws.{Sources, check_arrays, check_indexed, IsDrawAllowed}
+use Rattle.gl_plain.specs.subjects.Draws.{check_arrays, check_indexed, IsDrawAllowed}
 use Rattle.gl_base.specs.declared.target_enums.TheConstants.{FRAMEBUFFER, RENDERBUFFER}
 use Rattle.gl_plain.specs.subjects.Targets.{framebuffer_texture_refusal, framebuffer_renderbuffer_refusal, renderbuffer_storage_refusal, renderbuffer_at}
 use Rattle.gl_plain.specs.subjects.Mipmaps.{IsMipmapAllowed}

@@ -1,5 +1,5 @@
 -- The commands on images, and the calls that they spell.
-use Rattle.std.specs.Prelude.{ℕ, ◌==◌, if◌then◌else◌, List, slice_index, Option, None, Some}
+use Rattle.std.specs.Prelude.{ℕ, ◌==◌, if◌then◌else◌, List, Option, None, Some}
 use Rattle.gl_plain.specs.declared.numbers.TheConstants.{TEX_IMAGE_2D, TEX_SUB_IMAGE_2D, COPY_TEX_IMAGE_2D, COPY_TEX_SUB_IMAGE_2D, TEX_PARAMETERI, GENERATE_MIPMAP, RENDERBUFFER_STORAGE}
 use Rattle.gl_plain.specs.declared.commands.DataWords.{DataWords}
 use Rattle.gl_plain.specs.declared.commands.ImageCommand.{ImageCommand}

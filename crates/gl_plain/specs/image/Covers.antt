@@ -1,5 +1,5 @@
 -- What the commands on images need written before, and what is written after them.
-use Rattle.std.specs.Prelude.{ℕ, Bool, false, if◌then◌else◌, List, [], ◌∷◌, ◌++◌, map, is_none}
+use Rattle.std.specs.Prelude.{ℕ, false, if◌then◌else◌, List, [], ◌∷◌, ◌++◌, map, is_none}
 use Rattle.gl_base.specs.declared.rect.Rect.{Rect}
 use Rattle.gl_plain.specs.declared.image_words.CopyPartWords.{CopyPartWords}
 use Rattle.gl_plain.specs.declared.targets.AnyImage.{AnyImage}

@@ -1,5 +1,5 @@
 -- What a call on images leaves of the tables, where it is not refused. What it leaves of the contents of images stands beside it.
-use Rattle.std.specs.Prelude.{ℕ, List, Option}
+use Rattle.std.specs.Prelude.{ℕ, List}
 use Rattle.gl_plain.specs.declared.calls.ImageCall.{ImageCall}
 use Rattle.gl_plain.specs.declared.calls.ImageCall.TheVariants as calls
 use Rattle.gl_plain.specs.declared.errors.GlError.TheVariants.{OutOfMemory}

@@ -1,5 +1,5 @@
 -- What is written of images behind a command on objects: a texture that is made has none, nor has one that is deleted.
-use Rattle.std.specs.Prelude.{ℕ, Bool, false, ◌==◌, if◌then◌else◌, Option, None, Some}
+use Rattle.std.specs.Prelude.{ℕ, false, ◌==◌, if◌then◌else◌, Option, None, Some}
 use Rattle.std.specs.FinMap as map
 use Rattle.gl_plain.specs.declared.objects.Name.{Name}
 use Rattle.gl_plain.specs.declared.commands.ObjectCommand.{ObjectCommand}

@@ -1,6 +1,6 @@
 -- The code that a call on objects is refused with: the first whose condition holds, in the order INVALID_ENUM, INVALID_VALUE, OUT_OF_MEMORY by
 -- a limit, INVALID_FRAMEBUFFER_OPERATION, INVALID_OPERATION.
-use Rattle.std.specs.Prelude.{ℕ, pos, List, [], Option, None}
+use Rattle.std.specs.Prelude.{ℕ, pos, List, Option, None}
 use Rattle.gl_plain.specs.declared.errors.GlError.{GlError}
 use Rattle.gl_plain.specs.declared.calls.ObjectCall.{ObjectCall}
 use Rattle.gl_plain.specs.declared.calls.ObjectCall.TheVariants as calls

@@ -1,5 +1,5 @@
 -- Buckets, where the service keeps data that is longer than a region.
-use Rattle.std.specs.Prelude.{◌≡◌, ℕ, Bool, true, false, not, ◌+◌, ◌==◌, ◌&&◌, ◌||◌, nat_lt, nat_le, if◌then◌else◌, List, [], ◌∷◌, length, replicate, slice_set, slice_index_or, Option, None, Some}
+use Rattle.std.specs.Prelude.{◌≡◌, ℕ, Bool, false, not, ◌+◌, ◌==◌, ◌&&◌, ◌||◌, nat_lt, if◌then◌else◌, List, [], ◌∷◌, length, replicate, slice_set, slice_index_or, Option, None, Some}
 use Rattle.gl_base.specs.declared.limits.TheConstants.{DATA_LIMIT, LAST_BUCKET}
 use Rattle.gl_plain.specs.declared.commands.BucketCommand.{BucketCommand}
 use Rattle.gl_plain.specs.declared.commands.BucketCommand.TheVariants.{SetSize, SetData, GetStart, GetData}
@@ -7,6 +7,7 @@ use Rattle.gl_plain.specs.declared.commands.DataWords.{DataWords}
 use Rattle.gl_plain.specs.declared.calls.Reply.{Reply}
 use Rattle.gl_plain.specs.declared.calls.Reply.TheVariants as reply
 use Rattle.gl_plain.specs.Bytes.{overwritten, part}
+use Rattle.gl_plain.specs.Words.{as_word}
 
 -- the bytes of the buckets 0 to 3
 abbrev pub Buckets : Type 0
@@ -57,7 +58,7 @@ buckets_after buckets (GetData bucket offset count) payload = buckets
 abbrev pub bucket_reply : Buckets → BucketCommand → Reply
 bucket_reply buckets (SetSize bucket size) = reply.None
 bucket_reply buckets (SetData bucket offset words) = reply.None
-bucket_reply buckets (GetStart bucket) = reply.Word (length (bucket_at buckets bucket))
+bucket_reply buckets (GetStart bucket) = reply.Word (as_word (length (bucket_at buckets bucket)))
 bucket_reply buckets (GetData bucket offset count) = reply.Bytes (part (bucket_at buckets bucket) offset count)
 
 -- Data in a bucket
@@ -87,6 +88,7 @@ names_no_bucket (Some bucket) = is_no_bucket bucket
 abbrev pub reply_bytes : Reply → List ℕ
 reply_bytes reply.None = []
 reply_bytes (reply.Word n) = []
+reply_bytes (reply.Words words) = []
 reply_bytes (reply.Names names) = []
 reply_bytes (reply.Bytes bytes) = bytes
 reply_bytes (reply.Error code) = []

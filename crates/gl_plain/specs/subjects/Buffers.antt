@@ -1,6 +1,6 @@
 -- Buffers and their two bindings (OpenGL ES 2.0.25, section 2.9). The service and the driver have one type of tables: the service's by the
 -- client's names, the driver's by its own. Objects and bindings go by number, which is the driver's name; 0 binds nothing.
-use Rattle.std.specs.Prelude.{◌≡◌, ◌≤◌, ◌+◌, ◌⊎◌, ℕ, ℤ, pos, Bool, true, false, not, ◌==◌, ◌&&◌, ◌||◌, nat_lt, if◌then◌else◌, List, [], ◌∷◌, length, Option, None, Some, IsSome, IsTrue, is_some, is_none}
+use Rattle.std.specs.Prelude.{◌≡◌, ◌≤◌, ◌+◌, ◌⊎◌, ℕ, ℤ, pos, Bool, false, not, ◌==◌, ◌&&◌, ◌||◌, nat_lt, if◌then◌else◌, List, [], ◌∷◌, length, Option, None, Some, IsSome, IsTrue, is_some, is_none}
 use Rattle.std.specs.Ordering.{nat_cmp}
 use Rattle.std.specs.FinMap as map
 use Rattle.std.specs.FinSet as set
@@ -18,7 +18,7 @@ use Rattle.gl_plain.specs.declared.driver_calls.DriverCall.TheVariants.{Object}
 use Rattle.gl_plain.specs.declared.driver_calls.ObjectDriver.TheVariants as calls
 use Rattle.gl_plain.specs.Bytes.{overwritten}
 use Rattle.gl_plain.specs.Words.{is_negative, natural}
-use Rattle.gl_plain.specs.subjects.Names.{Names, new_name, named, made_object, unbound, IsLive, gen_refusal, is_bind_over_limit, NamesAgree}
+use Rattle.gl_plain.specs.subjects.Names.{Names, named, made_object, unbound, IsLive, gen_refusal, is_bind_over_limit, NamesAgree}
 use Rattle.gl_plain.specs.subjects.Data.{has_no_data, has_needed_data, has_just_needed_data, data_needed}
 
 -- the buffers: their names, the objects by number, and the numbers that the two targets bind

@@ -1,5 +1,5 @@
 -- Clear, and what draws and clears leave of the images that are drawn to (OpenGL ES 2.0.25, section 4.2.3).
-use Rattle.std.specs.Prelude.{◌≡◌, ℕ, Bool, true, false, not, ◌+◌, ◌==◌, if◌then◌else◌, List, [], ◌++◌, Option, None, Some, bit_and}
+use Rattle.std.specs.Prelude.{◌≡◌, ℕ, Bool, false, not, ◌==◌, if◌then◌else◌, List, [], ◌++◌, Option, None, Some, bit_and}
 use Rattle.gl_base.specs.declared.enums.TheConstants.{COLOR_BUFFER_BIT, DEPTH_BUFFER_BIT, STENCIL_BUFFER_BIT, CLEAR_BITS}
 use Rattle.gl_plain.specs.declared.errors.GlError.{GlError}
 use Rattle.gl_plain.specs.declared.errors.GlError.TheVariants.{InvalidValue, InvalidFramebufferOperation}
@@ -7,7 +7,7 @@ use Rattle.gl_plain.specs.declared.targets.AnyImage.{AnyImage}
 use Rattle.gl_plain.specs.declared.targets.Target.{Target}
 use Rattle.gl_plain.specs.declared.targets.Target.TheVariants as target
 use Rattle.gl_plain.specs.subjects.Targets.{Drawable, is_incomplete, image_list, target_images}
-use Rattle.gl_plain.specs.subjects.Images.{ScreenImage, Colour, Depth, Stencil, Screen, Contents, Made, all_made, counted, IsTargetWritten}
+use Rattle.gl_plain.specs.subjects.Images.{ScreenImage, Colour, Depth, Stencil, Contents, Made, all_made, counted, IsTargetWritten}
 
 -- bits other than those of the three kinds of images; a framebuffer that is not complete
 abbrev pub clear_refusal : Drawable → ℕ → Option GlError

@@ -1,7 +1,6 @@
 -- Whether a texture can be sampled (OpenGL ES 2.0.25, sections 3.7.10 and 3.8.2), and which of its images are.
 use Prim.Native.Nat.{zero, suc}
-use Rattle.std.specs.Prelude.{ℕ, Bool, true, false, not, ◌+◌, ◌-◌, ◌*◌, ◌/◌, ◌==◌, ◌&&◌, ◌||◌, max, if◌then◌else◌, List, [], ◌∷◌, ◌++◌, take, drop, slice_index_or, Option, None, Some, count_ones}
-use Rattle.std.specs.List.{list_all}
+use Rattle.std.specs.Prelude.{ℕ, Bool, true, false, not, ◌+◌, ◌*◌, ◌/◌, ◌==◌, ◌&&◌, ◌||◌, max, if◌then◌else◌, List, [], ◌∷◌, ◌++◌, take, drop, slice_index_or, Option, None, Some, count_ones}
 use Rattle.gl_base.specs.declared.gl_enum.GlEnum.{GlEnum}
 use Rattle.gl_base.specs.declared.limits.TheConstants.{LAST_LEVEL}
 use Rattle.gl_base.specs.declared.texture_enums.TheConstants.{TEXTURE_2D, TEXTURE_CUBE_MAP_POSITIVE_X, NEAREST, LINEAR, CLAMP_TO_EDGE}

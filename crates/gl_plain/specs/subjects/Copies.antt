@@ -1,11 +1,10 @@
 -- Reading pixels of what is drawn to, and copying them to images of textures (OpenGL ES 2.0.25, sections 4.3.1 and 3.7.2).
-use Rattle.std.specs.Prelude.{◌≡◌, ◌≤◌, ℕ, ℤ, pos, negsuc, Bool, true, false, not, ◌+◌, ◌-◌, ◌*◌, ◌==◌, ◌&&◌, ◌||◌, nat_lt, nat_le, if◌then◌else◌, List, [], ◌∷◌, ◌++◌, take, length, replicate, Option, None, Some, is_none, is_some}
+use Rattle.std.specs.Prelude.{◌≡◌, ◌≤◌, ℕ, ℤ, pos, negsuc, Bool, true, false, not, ◌+◌, ◌-◌, ◌*◌, ◌==◌, ◌&&◌, ◌||◌, nat_lt, nat_le, if◌then◌else◌, List, ◌++◌, take, replicate, Option, None, Some, is_none, is_some}
 use Rattle.gl_base.specs.declared.gl_enum.GlEnum.{GlEnum}
 use Rattle.gl_base.specs.declared.enums.TheConstants.{UNSIGNED_BYTE}
 use Rattle.gl_base.specs.declared.limits.TheConstants.{DATA_LIMIT}
 use Rattle.gl_base.specs.declared.texture_enums.TheConstants.{RGBA}
 use Rattle.gl_base.specs.declared.rect.Rect.{Rect}
-use Rattle.gl_base.specs.Rects.{is_empty, whole}
 use Rattle.gl_base.specs.PixelSizes.{pixel_bytes, pixel_size, image_size, padded}
 use Rattle.gl_plain.specs.declared.errors.GlError.{GlError}
 use Rattle.gl_plain.specs.declared.errors.GlError.TheVariants.{InvalidEnum, InvalidValue, InvalidOperation, OutOfMemory, InvalidFramebufferOperation}
@@ -13,13 +12,12 @@ use Rattle.gl_plain.specs.declared.image_words.CopyWords.{CopyWords}
 use Rattle.gl_plain.specs.declared.image_words.CopyPartWords.{CopyPartWords}
 use Rattle.gl_plain.specs.declared.image_words.ImageWords.{ImageWords}
 use Rattle.gl_plain.specs.declared.image_words.ReadWords.{ReadWords}
-use Rattle.gl_plain.specs.declared.targets.AnyImage.{AnyImage}
 use Rattle.gl_plain.specs.declared.textures.ImagePlace.{ImagePlace}
 use Rattle.gl_plain.specs.declared.textures.LevelView.{LevelView}
 use Rattle.gl_plain.specs.Words.{is_negative, natural}
 use Rattle.gl_plain.specs.subjects.Levels.{is_image_target, is_cube_face}
 use Rattle.gl_plain.specs.subjects.Textures.{TextureObjects, bound_number, place_bound, level_at}
-use Rattle.gl_plain.specs.subjects.Targets.{Drawable, is_incomplete, colour_view, colour_images, lacks_parts, is_colour_of}
+use Rattle.gl_plain.specs.subjects.Targets.{Drawable, is_incomplete, colour_view, lacks_parts, is_colour_of}
 use Rattle.gl_plain.specs.subjects.Images.{Pixel, Zero, Made, Contents, IsColourWritten, is_format, is_pixel_kind, is_level, is_zero, has_good_sides, leaves_level, with_image, with_pixels, counted}
 
 -- Where copied pixels come from

@@ -1,7 +1,7 @@
 -- Draws (OpenGL ES 2.0.25, sections 2.8 and 2.9.2): what they read, the rules by which they are refused, and the vertices that they draw.
 -- Numbers are whole numbers without an end, so that no sum wraps.
 use Prim.Native.Nat.{zero, suc}
-use Rattle.std.specs.Prelude.{◌≡◌, ◌≤◌, ℕ, ℤ, pos, Bool, true, false, not, ◌+◌, ◌-◌, ◌*◌, ◌^◌, ◌==◌, ◌&&◌, ◌||◌, nat_lt, nat_le, max, if◌then◌else◌, List, [], ◌∷◌, ◌++◌, length, map, take, drop, slice_index, Option, None, Some, is_none, is_some, Result, Ok, Err}
+use Rattle.std.specs.Prelude.{◌≡◌, ℕ, ℤ, pos, Bool, true, false, not, ◌+◌, ◌-◌, ◌*◌, ◌^◌, ◌==◌, ◌&&◌, ◌||◌, nat_lt, nat_le, max, if◌then◌else◌, List, [], ◌∷◌, ◌++◌, length, map, take, drop, slice_index, Option, None, Some, is_none, is_some, Result, Ok, Err}
 use Rattle.std.specs.Ordering.{nat_cmp}
 use Rattle.std.specs.FinMap as table
 use Rattle.std.specs.Int.{bit_at}
@@ -24,13 +24,11 @@ use Rattle.gl_plain.specs.declared.draws.DrawView.{DrawView}
 use Rattle.gl_plain.specs.declared.draws.IndexView.{IndexView}
 use Rattle.gl_plain.specs.declared.draws.UnitView.{UnitView}
 use Rattle.gl_plain.specs.Words.{is_negative, natural}
-use Rattle.gl_plain.specs.subjects.Attributes.{opening_attribute}
 use Rattle.gl_plain.specs.subjects.Links.{columns, words_of}
-use Rattle.gl_plain.specs.declared.textures.LevelView.{LevelView}
 use Rattle.gl_plain.specs.declared.textures.ImagePlace.{ImagePlace}
 use Rattle.gl_plain.specs.declared.textures.Texture.{Texture}
 use Rattle.gl_plain.specs.subjects.Completeness.{is_complete, sampled_places}
-use Rattle.gl_plain.specs.subjects.Textures.{TextureObjects, unit_at, bound_in, texture_at, level_at}
+use Rattle.gl_plain.specs.subjects.Textures.{TextureObjects, unit_at, bound_in, texture_at}
 use Rattle.gl_plain.specs.declared.targets.AnyImage.{AnyImage}
 use Rattle.gl_plain.specs.declared.targets.AnyImage.TheVariants as image
 use Rattle.gl_plain.specs.declared.targets.Target.{Target}

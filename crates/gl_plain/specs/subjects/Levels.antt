@@ -1,5 +1,5 @@
 -- Textures as objects, and where their images stand (OpenGL ES 2.0.25, sections 3.7.1 and 3.7.12).
-use Rattle.std.specs.Prelude.{ℕ, Bool, true, false, ◌+◌, ◌-◌, ◌*◌, ◌==◌, ◌&&◌, ◌||◌, nat_le, if◌then◌else◌, List, replicate, slice_index_or, slice_set, Option, None, Some}
+use Rattle.std.specs.Prelude.{ℕ, Bool, true, false, ◌+◌, ◌-◌, ◌*◌, ◌==◌, ◌&&◌, ◌||◌, nat_le, if◌then◌else◌, replicate, slice_index_or, slice_set, Option, None, Some}
 use Rattle.gl_base.specs.declared.gl_enum.GlEnum.{GlEnum}
 use Rattle.gl_base.specs.declared.limits.TheConstants.{LAST_LEVEL}
 use Rattle.gl_base.specs.declared.texture_enums.TheConstants.{TEXTURE_2D, TEXTURE_CUBE_MAP, TEXTURE_CUBE_MAP_POSITIVE_X, TEXTURE_CUBE_MAP_NEGATIVE_Z, NEAREST_MIPMAP_LINEAR, LINEAR, REPEAT}

@@ -1,6 +1,6 @@
 -- GenerateMipmap (OpenGL ES 2.0.25, section 3.7.11): the levels behind level 0 become its halves, down to one pixel.
 use Prim.Native.Nat.{zero, suc}
-use Rattle.std.specs.Prelude.{◌≡◌, ℕ, Bool, true, false, not, ◌+◌, ◌==◌, ◌&&◌, ◌||◌, max, if◌then◌else◌, List, [], ◌∷◌, ◌++◌, map, Option, None, Some}
+use Rattle.std.specs.Prelude.{◌≡◌, ℕ, Bool, true, false, not, ◌+◌, ◌&&◌, if◌then◌else◌, List, [], ◌∷◌, ◌++◌, map, Option, None, Some}
 use Rattle.gl_base.specs.declared.gl_enum.GlEnum.{GlEnum}
 use Rattle.gl_base.specs.declared.limits.TheConstants.{LAST_LEVEL}
 use Rattle.gl_plain.specs.declared.errors.GlError.{GlError}

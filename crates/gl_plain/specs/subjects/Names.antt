@@ -1,6 +1,6 @@
 -- Names of objects, in every name space (OpenGL ES 2.0.25, section 2.9 for buffers, and alike for the others).
 use Rattle.std.specs.Prelude.{◌≡◌, ◌≢◌, ℕ, ℤ, Bool, true, false, not, ◌==◌, ◌&&◌, ◌||◌, if◌then◌else◌, List, [], ◌∷◌, Option, None, Some, IsSome, is_some, is_none}
-use Prim.Native.Nat.{zero, suc}
+use Prim.Native.Nat.{suc}
 use Rattle.std.specs.Ordering.{nat_cmp}
 use Rattle.std.specs.FinMap as map
 use Rattle.std.specs.FinSet as set
@@ -76,3 +76,12 @@ pub record NamesAgree (w d : Names) (given : set.FinSet nat_cmp) : Type 0 where
   pub given_once : (n : ℕ) (x : Name) → map.get d n ≡ Some x → set.contains given n ≡ true
   pub no_zero : map.get d 0 ≡ None
   pub no_zero_id : map.get w 0 ≡ None
+
+-- the first of these names in use that has this number, or 0
+abbrev pub name_among : List (ℕ × Name) → ℕ → ℕ
+name_among [] number = 0
+name_among (entry ∷ entries) number = if entry.1.number == number then entry.0 else name_among entries number
+
+-- the name in use that has this number, or 0. A number is that of one name at most
+abbrev pub name_of : Names → ℕ → ℕ
+name_of names number = name_among (map.entries names) number

@@ -1,7 +1,7 @@
 -- Shaders and programs (OpenGL ES 2.0.25, section 2.10). They share one name space. The service and the driver have one type of tables: the
 -- service's by the client's names, the driver's by its own. Objects, what is attached and what is current go by number, which is the driver's
 -- name; 0 is no program.
-use Rattle.std.specs.Prelude.{◌≡◌, ◌+◌, ◌-◌, ℕ, Bool, true, false, not, ◌==◌, ◌&&◌, ◌||◌, nat_lt, nat_le, if◌then◌else◌, List, [], ◌∷◌, ◌++◌, length, filter, replicate, codes, Option, None, Some, IsSome, IsTrue, is_some, is_none, unwrap_or, nat_eq}
+use Rattle.std.specs.Prelude.{◌≡◌, ◌+◌, ◌-◌, ℕ, Bool, true, false, not, ◌==◌, ◌&&◌, ◌||◌, nat_lt, nat_le, if◌then◌else◌, List, [], ◌∷◌, ◌++◌, length, filter, replicate, codes, Option, None, Some, is_some, is_none, unwrap_or, nat_eq}
 use Rattle.std.specs.List.{list_any, starts_with}
 use Rattle.std.specs.Ordering.{nat_cmp}
 use Rattle.std.specs.FinMap as map
@@ -11,7 +11,6 @@ use Rattle.gl_base.specs.declared.enums.TheConstants.{VERTEX_SHADER, FRAGMENT_SH
 use Rattle.gl_base.specs.declared.limits.TheConstants.{LAST_ATTRIBUTE, NAME_LENGTH_LIMIT}
 use Rattle.gl_base.specs.Names.{is_ordinary, is_over_limit}
 use Rattle.gl_plain.specs.declared.objects.Name.{Name}
-use Rattle.gl_plain.specs.declared.programs.BoundLocation.{BoundLocation}
 use Rattle.gl_plain.specs.declared.programs.Executable.{Executable}
 use Rattle.gl_plain.specs.declared.programs.LinkAnswer.{LinkAnswer}
 use Rattle.gl_plain.specs.declared.programs.Program.{Program}

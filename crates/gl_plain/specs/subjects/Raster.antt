@@ -1,6 +1,6 @@
 -- The fixed state of rasterization and of fragments, and the alignments of pixels in memory (OpenGL ES 2.0.25, sections 2.12, 3.4, 3.5, 3.6.1,
 -- 4.1, 4.2 and 5.2). One table says what each command takes; the words that it keeps are what is stored, asked for, and given to a driver.
-use Rattle.std.specs.Prelude.{◌≡◌, ℕ, Bool, true, false, not, ◌+◌, ◌-◌, ◌==◌, ◌&&◌, ◌||◌, nat_lt, nat_le, min, if◌then◌else◌, List, [], ◌∷◌, length, slice_index, Option, None, Some}
+use Rattle.std.specs.Prelude.{◌≡◌, ℕ, Bool, true, false, not, ◌==◌, ◌&&◌, ◌||◌, nat_le, min, if◌then◌else◌, List, [], ◌∷◌, length, slice_index, Option, None, Some}
 use Rattle.std.specs.Int.{cast_signed, w32}
 use Rattle.gl_base.specs.declared.gl_enum.GlEnum.{GlEnum}
 use Rattle.gl_base.specs.declared.enums.TheConstants.{ONE}
@@ -16,7 +16,7 @@ use Rattle.gl_plain.specs.declared.raster.Capabilities.{Capabilities}
 use Rattle.gl_plain.specs.declared.raster.StencilSide.{StencilSide}
 use Rattle.gl_plain.specs.declared.raster.RasterWords.{RasterWords}
 use Rattle.gl_plain.specs.declared.raster.Alignments.{Alignments}
-use Rattle.gl_plain.specs.Words.{is_negative, natural}
+use Rattle.gl_plain.specs.Words.{is_negative}
 use Rattle.gl_plain.specs.subjects.Links.{is_one_of}
 
 -- Opening values

@@ -1,6 +1,6 @@
 -- Renderbuffers and framebuffers (OpenGL ES 2.0.25, section 4.4): their names, what is attached, whether a framebuffer is complete, and the
 -- images that are drawn to.
-use Rattle.std.specs.Prelude.{◌≡◌, ◌≢◌, ◌⊎◌, ℕ, ℤ, Bool, true, false, not, ◌==◌, ◌&&◌, ◌||◌, nat_lt, if◌then◌else◌, List, [], ◌∷◌, ◌++◌, Option, None, Some, IsSome, is_none}
+use Rattle.std.specs.Prelude.{◌≡◌, ◌⊎◌, ℕ, ℤ, Bool, true, false, not, ◌==◌, ◌&&◌, ◌||◌, nat_lt, if◌then◌else◌, List, [], ◌∷◌, ◌++◌, Option, None, Some, IsSome}
 use Rattle.std.specs.Ordering.{nat_cmp}
 use Rattle.std.specs.FinMap as table
 use Rattle.std.specs.FinSet as set
@@ -27,7 +27,7 @@ use Rattle.gl_plain.specs.declared.targets.Renderbuffer.{Renderbuffer}
 use Rattle.gl_plain.specs.declared.targets.Target.{Target}
 use Rattle.gl_plain.specs.declared.targets.Target.TheVariants as target
 use Rattle.gl_plain.specs.Words.{is_negative, natural}
-use Rattle.gl_plain.specs.subjects.Names.{Names, made_object, unbound, IsLive, is_bind_over_limit, NamesAgree}
+use Rattle.gl_plain.specs.subjects.Names.{Names, made_object, unbound, is_bind_over_limit, NamesAgree}
 use Rattle.gl_plain.specs.subjects.Levels.{is_image_target, suits, level_of}
 use Rattle.gl_plain.specs.subjects.Textures.{TextureObjects, TextureTables, IsOwned, level_at}
 

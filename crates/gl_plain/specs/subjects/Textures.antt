@@ -1,14 +1,13 @@
 -- Textures, their parameters, and the texture units (OpenGL ES 2.0.25, section 3.7). The service and the driver have one type of tables: the
 -- service's by the client's names, the driver's by its own. Objects and bindings go by number, which is the driver's name; 0 is the default
 -- texture of its target.
-use Rattle.std.specs.Prelude.{◌≡◌, ◌≤◌, ◌⊎◌, ℕ, pos, Bool, true, false, not, ◌+◌, ◌-◌, ◌*◌, ◌==◌, ◌&&◌, ◌||◌, nat_le, if◌then◌else◌, List, [], ◌∷◌, length, map, replicate, slice_index_or, slice_set, Option, None, Some, IsSome, IsTrue, is_some}
+use Rattle.std.specs.Prelude.{◌≡◌, ◌≤◌, ◌⊎◌, ℕ, pos, Bool, true, false, not, ◌+◌, ◌-◌, ◌*◌, ◌==◌, ◌&&◌, ◌||◌, nat_le, if◌then◌else◌, List, [], ◌∷◌, length, map, replicate, slice_index_or, slice_set, Option, None, Some, IsSome, IsTrue}
 use Rattle.std.specs.Ordering.{nat_cmp}
 use Rattle.std.specs.FinMap as table
 use Rattle.std.specs.FinSet as set
 use Rattle.gl_base.specs.declared.gl_enum.GlEnum.{GlEnum}
 use Rattle.gl_base.specs.declared.limits.TheConstants.{LAST_LEVEL, SIDE_LIMIT}
 use Rattle.gl_base.specs.declared.texture_enums.TheConstants.{TEXTURE0, TEXTURE7, TEXTURE_MIN_FILTER, TEXTURE_MAG_FILTER, TEXTURE_WRAP_S, TEXTURE_WRAP_T, NEAREST, LINEAR, NEAREST_MIPMAP_NEAREST, LINEAR_MIPMAP_NEAREST, NEAREST_MIPMAP_LINEAR, LINEAR_MIPMAP_LINEAR, REPEAT, CLAMP_TO_EDGE, MIRRORED_REPEAT}
-use Rattle.gl_base.specs.Names.{is_ordinary}
 use Rattle.gl_plain.specs.declared.objects.Name.{Name}
 use Rattle.gl_plain.specs.declared.textures.Texture.{Texture}
 use Rattle.gl_plain.specs.declared.textures.TextureUnit.{TextureUnit}

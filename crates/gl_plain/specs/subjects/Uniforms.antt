@@ -1,12 +1,11 @@
 -- The values of uniforms in the executable that is in use (OpenGL ES 2.0.25, section 2.10.4).
-use Rattle.std.specs.Prelude.{◌≡◌, ◌≤◌, ℕ, ℤ, pos, negsuc, Bool, true, false, not, ◌+◌, ◌-◌, ◌*◌, ◌==◌, ◌&&◌, ◌||◌, nat_lt, nat_le, min, if◌then◌else◌, List, [], ◌∷◌, length, map, Option, None, Some, IsTrue, is_none}
+use Rattle.std.specs.Prelude.{◌≡◌, ◌≤◌, ℕ, ℤ, pos, negsuc, Bool, true, false, not, ◌+◌, ◌-◌, ◌*◌, ◌==◌, ◌&&◌, ◌||◌, nat_lt, nat_le, min, if◌then◌else◌, List, [], ◌∷◌, length, map, Option, None, Some}
 use Rattle.std.specs.List.{list_any}
 use Rattle.std.specs.Option.{option_map}
 use Rattle.gl_base.specs.declared.gl_enum.GlEnum.{GlEnum}
 use Rattle.gl_base.specs.declared.enums.TheConstants.{FLOAT, FLOAT_VEC2, FLOAT_VEC3, FLOAT_VEC4, FLOAT_MAT2, FLOAT_MAT3, FLOAT_MAT4, INT, INT_VEC2, INT_VEC3, INT_VEC4, BOOL, BOOL_VEC2, BOOL_VEC3, BOOL_VEC4, NEGATIVE_ZERO}
 use Rattle.gl_base.specs.declared.limits.TheConstants.{LAST_UNIT, UNIFORM_LIMIT}
 use Rattle.gl_plain.specs.declared.programs.Executable.{Executable}
-use Rattle.gl_plain.specs.declared.programs.Program.{Program}
 use Rattle.gl_plain.specs.declared.programs.Uniform.{Uniform}
 use Rattle.gl_plain.specs.declared.commands.DataWords.{DataWords}
 use Rattle.gl_plain.specs.declared.errors.GlError.{GlError}
