@@ -1,7 +1,7 @@
 //! Four lists of bytes.
-ghost use Rattle.std.specs.Prelude.{◌≡◌, ◌≤◌, List, ℕ, OnOk, OnErr, length, not, replicate};
+ghost use Rattle.std.specs.Prelude.{◌≡◌, ◌≤◌, ℕ, OnOk, OnErr, length, not, replicate};
 ghost use Rattle.std.specs.Bool.{OnTrue, OnFalse};
-ghost use Rattle.gl_base.specs.declared.limits.TheConstants.{DATA_LIMIT, LAST_BUCKET};
+ghost use Rattle.gl_base.specs.declared.limits.TheConstants.{LAST_BUCKET};
 ghost use Rattle.gl_plain.specs.Bytes.{overwritten};
 ghost use Rattle.gl_plain.specs.subjects.Buckets.{bucket_at, empty_buckets, is_past_bucket, with_bucket};
 
@@ -9,7 +9,7 @@ use gl_plain::Bytes;
 use std::alloc::{AllocError, Global};
 use std::marker::Model;
 
-/// The buckets 0 to 3, none longer than the limit of data. Contracts see the list of their bytes.
+/// The buckets 0 to 3. Contracts see the list of their bytes.
 #[derive(Debug, Drop)]
 pub struct Buckets {
     alloc: Global,
@@ -17,15 +17,11 @@ pub struct Buckets {
 }
 
 impl Model for Buckets {
-    ghost use Rattle.std.specs.Prelude.{◌≤◌, All, length};
-    ghost use Rattle.gl_base.specs.declared.limits.TheConstants.{DATA_LIMIT};
     ghost use Rattle.gl_plain.specs.subjects.Buckets as subject;
 
     ghost Value = { subject.Buckets };
 
     ghost view = { λ a. a.buckets };
-
-    ghost invariant = { λ a. All (λ bytes. length bytes ≤ DATA_LIMIT) a.buckets };
 }
 
 impl Buckets {
@@ -46,8 +42,7 @@ impl Buckets {
 
     /// Makes a bucket so many zeros, whatever it had. Without memory for them all is as before.
     pub fn size(&mut self, bucket: u32, size: u32) -> Result<(), AllocError>
-        requires bucket { bucket ≤ LAST_BUCKET }
-        requires size { size ≤ DATA_LIMIT }
+        requires { bucket ≤ LAST_BUCKET }
         ensures ok { OnOk result (self.new ≡ with_bucket self.old bucket (replicate size 0)) }
         ensures err { OnErr result (self.new ≡ self.old) }
     {
@@ -75,8 +70,7 @@ impl Buckets {
 
     /// Gives a bucket these bytes in place of its own. It takes no memory.
     pub fn give(&mut self, bucket: u32, bytes: Bytes)
-        requires bucket { bucket ≤ LAST_BUCKET }
-        requires size { length bytes ≤ DATA_LIMIT }
+        requires { bucket ≤ LAST_BUCKET }
         ensures { self.new ≡ with_bucket self.old bucket bytes }
     {
         self.buckets[bucket as usize] = bytes;
@@ -85,8 +79,7 @@ impl Buckets {
     /// The bytes of a bucket.
     pub fn read(&self, bucket: u32) -> &[u8]
         requires { bucket ≤ LAST_BUCKET }
-        ensures bytes { result.now ≡ bucket_at self.now bucket }
-        ensures limit { length result.now ≤ DATA_LIMIT }
+        ensures { result.now ≡ bucket_at self.now bucket }
     {
         self.buckets[bucket as usize].as_slice()
     }

@@ -73,7 +73,7 @@ impl Buffer {
         max_index(self.bytes.as_slice(), offset, count, kind)
     }
 
-    /// Puts these bytes and this usage in place of what it has. It takes no memory so far, and answers `Ok`.
+    /// Puts these bytes and this usage in place of what it has. It takes no memory, and answers `Ok`.
     pub fn store(&mut self, bytes: Bytes, usage: GlEnum) -> Result<(), AllocError>
         requires { length bytes ≤ DATA_LIMIT }
         ensures ok { OnOk result (self.new ≡ record { bytes = bytes; usage = usage }) }

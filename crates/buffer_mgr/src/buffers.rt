@@ -5,7 +5,7 @@ ghost use Rattle.std.specs.FinMap as map;
 ghost use Rattle.std.specs.Option.{option_copied};
 ghost use Rattle.gl_base.specs.Names as limits;
 ghost use Rattle.gl_base.specs.declared.limits.TheConstants.{DATA_LIMIT};
-ghost use Rattle.gl_plain.specs.subjects.Names.{new_name, unbound};
+ghost use Rattle.gl_plain.specs.subjects.Names.{name_of, new_name, unbound};
 ghost use Rattle.gl_plain.specs.subjects.Buffers as plain;
 ghost use Rattle.gl_plain.specs.subjects.Attributes.{object_of};
 ghost use Rattle.svc_names.specs.Answers.{IsAnswer};
@@ -13,7 +13,7 @@ ghost use Rattle.svc_names.specs.Answers.{IsAnswer};
 use crate::buffer::Buffer;
 use gl_base::enums::{ARRAY_BUFFER, ELEMENT_ARRAY_BUFFER};
 use gl_base::{GlEnum, NumberMap};
-use gl_plain::{Bytes, Name};
+use gl_plain::{Bytes, Name, name_of};
 use std::alloc::{AllocError, Global};
 use svc_names::{NameRefusal, NameTable};
 
@@ -96,6 +96,20 @@ impl Buffers {
         self.objects.get(number)
     }
 
+    /// The name in use that has this number, or 0. It looks at one name after the other.
+    pub fn name_of(&self, number: u64) -> u32
+        ensures { result ≡ name_of (tables self.now).names number }
+    {
+        name_of(self.names.entries(), number)
+    }
+
+    /// The name of the buffer that the target binds, or 0.
+    pub fn bound_name(&self, target: GlEnum) -> u32
+        ensures { result ≡ name_of (tables self.now).names (plain.binding (tables self.now) target) }
+    {
+        self.name_of(self.binding(target))
+    }
+
     /// The number of the buffer that ARRAY_BUFFER binds, if it binds one.
     pub fn array_object(&self) -> Option<u64>
         ensures { result ≡ object_of (tables self.now).array }
@@ -159,7 +173,7 @@ impl Buffers {
         Ok(())
     }
 
-    /// Puts bytes and a usage in place of those of the buffer that the target binds. It takes no memory so far, and answers `Ok`.
+    /// Puts bytes and a usage in place of those of the buffer that the target binds. It takes no memory, and answers `Ok`.
     pub fn store(&mut self, target: GlEnum, bytes: Bytes, usage: GlEnum) -> Result<(), AllocError>
         requires bound { IsSome (plain.bound (tables self.old) target) }
         requires limit { length bytes ≤ DATA_LIMIT }

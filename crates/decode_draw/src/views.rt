@@ -14,11 +14,12 @@ ghost use Rattle.decode_draw.specs.Judged.{with_units};
 use crate::judged::Judged;
 use attrib_mgr::Attribs;
 use buffer_mgr::Buffers;
-use draw_check::{check, is_index_kind};
+use draw_check::check;
 use gl_base::GlEnum;
 use gl_base::enums::{ELEMENT_ARRAY_BUFFER, FLOAT};
 use gl_plain::{
     ArraySpec, ArrayView, DrawView, GlError, IndexView, Target, UnitView, VertexAttribute,
+    is_index_kind,
 };
 use program_mgr::Programs;
 use target_mgr::Targets;

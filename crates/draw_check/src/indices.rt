@@ -2,16 +2,7 @@
 ghost use Rattle.std.specs.Prelude.{◌≡◌, ◌<◌, ◌+◌, ◌-◌, ◌^◌};
 ghost use Rattle.gl_plain.specs.subjects.Draws as d;
 
-use gl_base::GlEnum;
-use gl_base::enums::{UNSIGNED_BYTE, UNSIGNED_SHORT};
-use gl_plain::IndexView;
-
-/// Whether indices can be of this kind: UNSIGNED_BYTE or UNSIGNED_SHORT.
-pub fn is_index_kind(kind: GlEnum) -> bool
-    ensures { result ≡ d.is_index_kind kind }
-{
-    kind == UNSIGNED_BYTE || kind == UNSIGNED_SHORT
-}
+use gl_plain::{IndexView, is_index_kind};
 
 /// Whether the draw has indices of a kind that is none.
 pub fn has_wrong_kind(indices: &Option<IndexView>) -> bool

@@ -7,7 +7,6 @@ mod indices;
 mod units;
 
 pub use elements::check;
-pub use indices::is_index_kind;
 
 #[cfg(test)]
 mod tests;

@@ -1,8 +1,10 @@
 //! A draw that is let through, and what stops it.
-use crate::{check, is_index_kind};
+use crate::check;
 use gl_base::GlEnum;
 use gl_base::enums::{FLOAT, FRAMEBUFFER_COMPLETE, TRIANGLE_FAN, UNSIGNED_BYTE};
-use gl_plain::{ArraySpec, ArrayView, DrawPlan, DrawView, GlError, IndexView, UnitView};
+use gl_plain::{
+    ArraySpec, ArrayView, DrawPlan, DrawView, GlError, IndexView, UnitView, is_index_kind,
+};
 use std::test::*;
 
 /// An array of three floats an element, in a buffer of so many bytes.

@@ -1,8 +1,8 @@
 -- The table of the elements of uniforms, as it is made, and what it has.
 use Prim.Native.Nat.{zero, suc}
-use Rattle.std.proofs.Common.{◌≡◌, ◌≤◌, ◌<◌, ℕ, ◌+◌, ◌-◌, ◌*◌, List, [], ◌∷◌, ◌++◌, length, drop, get_or, Bool, true, false, if◌then◌else◌, nat_lt, inl, inr, subst, refl, sym, ◌∙◌, ap, arith, add-one, add-zero, zero-add, append_assoc, Option, Some}
+use Rattle.std.proofs.Common.{◌≡◌, ◌≤◌, ◌<◌, ℕ, ℤ, pos, negsuc, ◌+◌, ◌-◌, ◌*◌, List, [], ◌∷◌, ◌++◌, length, drop, get_or, Bool, true, false, if◌then◌else◌, nat_lt, inl, inr, subst, refl, sym, ◌∙◌, ap, arith, add-one, add-zero, zero-add, append_assoc, Option, Some}
 use Rattle.std.specs.List.{slice_get}
-use Rattle.std.proofs.Math.Nat.{one-le-mul, suc-mul, zero-mul, add-mul, mul-le-mul_right, mul-le-mul_left}
+use Rattle.std.proofs.Math.Nat.{one-le-mul, one-mul, suc-mul, zero-mul, add-mul, mul-le-mul_right, mul-le-mul_left}
 use Rattle.std.proofs.lemmas.Nat.{mul-le}
 use Rattle.std.proofs.lemmas.Bool.{cases_lt, lt-ltb, le-ltb}
 use Rattle.std.proofs.lemmas.Option.{same_Some}
@@ -11,7 +11,7 @@ use Rattle.std.proofs.lemmas.List.Sums.{sum_by-cons}
 use Rattle.gl_plain.specs.declared.programs.Uniform.{Uniform}
 use Rattle.gl_base.specs.declared.gl_enum.GlEnum.{GlEnum}
 use Rattle.gl_plain.specs.subjects.Links.{columns, rows, words_of, words_in, elements_in}
-use Rattle.gl_plain.specs.subjects.Uniforms.{ElementPlace, place_from}
+use Rattle.gl_plain.specs.subjects.Uniforms.{ElementPlace, place_from, place_of}
 use Rattle.program_mgr.specs.declared.places.Place.{Place}
 use Rattle.program_mgr.specs.Places.{element_places, table_from, kept_place, place_in, IsTable}
 
@@ -159,6 +159,30 @@ place_bound (u ∷ us) l w p is = elim (cases_lt l u.size) [
 
   here : l < u.size → record { uniform = u; element = l; word = w + l * words_of u.kind } ≡ p → p.word + (p.uniform.size - p.element) * words_of p.uniform.kind ≤ w + (u.size * words_of u.kind + words_in us)
   here lt e = subst (λ (q : ElementPlace). q.word + (q.uniform.size - q.element) * words_of q.uniform.kind ≤ w + (u.size * words_of u.kind + words_in us)) e (found_here l u.size w (words_of u.kind) (words_in us) lt)
+
+element_here : (l size w step words : ℕ) → l < size → w + l * step + step ≤ w + (size * step + words)
+element_here l size w step words lt =
+    let more : (l + 1) * step ≤ size * step = mul-le-mul_right {m = l + 1} {n = size} step (omega arith) in
+    let one : (l + 1) * step ≡ l * step + step = add-mul l 1 step ∙ ap (λ n. l * step + n) (one-mul step) in
+    omega (arith, more, one)
+
+-- the words of an element are among those of the uniforms
+pub element_bound : (us : List Uniform) (l w : ℕ) (p : ElementPlace) → place_from us l w ≡ Some p → p.word + words_of p.uniform.kind ≤ w + words_in us
+element_bound [] l w p is = absurd (cc)
+element_bound (u ∷ us) l w p is = elim (cases_lt l u.size) [
+  | inl lt ↦ here lt (same_Some _ _ (sym (ap (λ b. chosen b) (lt-ltb l u.size lt)) ∙ is))
+  | inr ge ↦ omega (arith, element_bound us (l - u.size) (w + u.size * words_of u.kind) p (sym (ap (λ b. chosen b) (le-ltb l u.size ge)) ∙ is))
+] where
+  chosen : Bool → Option ElementPlace
+  chosen b = if b then Some (record { uniform = u; element = l; word = w + l * words_of u.kind }) else place_from us (l - u.size) (w + u.size * words_of u.kind)
+
+  here : l < u.size → record { uniform = u; element = l; word = w + l * words_of u.kind } ≡ p → p.word + words_of p.uniform.kind ≤ w + (u.size * words_of u.kind + words_in us)
+  here lt e = subst (λ (q : ElementPlace). q.word + words_of q.uniform.kind ≤ w + (u.size * words_of u.kind + words_in us)) e (element_here l u.size w (words_of u.kind) (words_in us) lt)
+
+-- so they lie inside the values
+pub element_inside : (us : List Uniform) (location : ℤ) (p : ElementPlace) → place_of us location ≡ Some p → p.word + words_of p.uniform.kind ≤ words_in us
+element_inside us (pos l) p is = omega (arith, element_bound us l 0 p is)
+element_inside us (negsuc l) p is = absurd (cc)
 
 rows_some : (a b c : Bool) → 1 ≤ (if a then 2 else if b then 3 else if c then 4 else 1)
 rows_some true b c = omega arith

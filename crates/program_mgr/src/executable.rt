@@ -1,14 +1,17 @@
 //! What a program is used by, once it was linked (OpenGL ES 2.0.25, section 2.10.3), with the values of its uniforms (section 2.10.4).
-ghost use Rattle.std.specs.Prelude.{◌≡◌, ◌≤◌, true, length, IfOk};
-ghost use Rattle.std.specs.Option.{option_map};
+ghost use Rattle.std.specs.Prelude.{◌≡◌, ◌≤◌, ◌+◌, true, length, IfOk};
+ghost use Rattle.gl_plain.specs.Bytes.{part};
+ghost use Rattle.std.specs.Option.{option_copied, option_map};
 ghost use Rattle.gl_base.specs.declared.limits.TheConstants.{UNIFORM_LIMIT};
 ghost use Rattle.gl_plain.specs.subjects.Links.{elements_in, words_in};
+ghost use Rattle.gl_plain.specs.subjects.ProgramQueries.{element_words};
 ghost use Rattle.gl_plain.specs.subjects.Uniforms as plain;
 ghost use Rattle.program_mgr.specs.Stores.{IsStored};
 
 use crate::element::{Element, store_part};
 use crate::past::Past;
 use crate::places::{Place, Table, table_of};
+use crate::uniform_kinds::words_of;
 use gl_plain::{AttributeList, UniformList};
 use std::alloc::{AllocError, Global};
 use std::marker::Model;
@@ -35,6 +38,14 @@ impl Model for Executable {
     ghost view = { λ a. record { vertex = a.past.vertex; fragment = a.past.fragment; bound = a.past.bound; answer = record { ok = true; log = a.past.log; attributes = a.attributes; uniforms = a.uniforms }; values = a.values.items } };
 
     ghost invariant = { λ a. IsTable a.uniforms a.places.items × (length a.values.items ≡ words_in a.uniforms) × (elements_in a.uniforms ≤ UNIFORM_LIMIT) };
+}
+
+/// So many words from a place on.
+fn words_from(values: &[u32], start: usize, count: usize) -> &[u32]
+    requires { start + count ≤ length values.now }
+    ensures { result.now ≡ part values.now start count }
+{
+    &values[start..start + count]
 }
 
 impl Executable {
@@ -100,6 +111,15 @@ impl Executable {
             element: place.element,
             word: place.word,
         })
+    }
+
+    /// The words of an element of its own.
+    pub fn words_at(&self, location: i32) -> Option<&[u32]>
+        ensures { option_copied result ≡ option_map (element_words self.now.values) (plain.place_of self.now.answer.uniforms location) }
+    {
+        let element = self.element(location)?;
+        let words = words_of(element.uniform.kind) as usize;
+        Some(words_from(self.values.as_slice(), element.word, words))
     }
 
     /// Stores what is given for the element at a location and those behind it. Nowhere nothing is stored.

@@ -17,12 +17,13 @@ mod uniform_kinds;
 mod uniforms;
 mod units;
 
+pub use element::Element;
 pub use executable::Executable;
 pub use program::Program;
 pub use programs::Programs;
 pub use refusal::ProgramRefusal;
 pub use shader::Shader;
-pub use uniform_kinds::{is_given_kind, uniform_needed};
+pub use uniform_kinds::{is_float_kind, is_given_kind, uniform_needed};
 pub use units::UnitUse;
 
 #[cfg(test)]

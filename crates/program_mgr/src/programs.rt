@@ -3,7 +3,9 @@ ghost use Rattle.std.specs.Prelude.{◌≡◌, true, OnOk, OnErr, IfOk};
 ghost use Rattle.std.specs.FinMap as map;
 ghost use Rattle.std.specs.Option.{option_copied};
 ghost use Rattle.gl_base.specs.Names as limits;
+ghost use Rattle.gl_plain.specs.subjects.ProgramQueries.{name_in};
 ghost use Rattle.gl_plain.specs.subjects.Programs as plain;
+ghost use Rattle.gl_plain.specs.subjects.Values.{current_name};
 ghost use Rattle.svc_names.specs.Answers.{IsAnswer};
 ghost use Rattle.program_mgr.specs.Restored.{restored};
 
@@ -107,6 +109,20 @@ impl Programs {
             Some(name) => name.number,
             None => 0,
         }
+    }
+
+    /// The name of the object with this number, or 0.
+    pub fn name_of(&self, number: u64) -> u32
+        ensures { result ≡ name_in (tables self.now) number }
+    {
+        self.ids.get(number).copied().unwrap_or(0)
+    }
+
+    /// The name of the program that is current, or 0 (section 6.1.1).
+    pub fn current_name(&self) -> u32
+        ensures { result ≡ current_name (tables self.now) }
+    {
+        self.name_of(self.current)
     }
 
     /// Whether so many ordinary names more are too many.

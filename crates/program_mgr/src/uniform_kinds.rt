@@ -97,6 +97,16 @@ pub fn is_sampler(kind: GlEnum) -> bool
     kind == SAMPLER_2D || kind == SAMPLER_CUBE
 }
 
+/// Whether uniforms of this type are floats, or matrices of floats.
+pub fn is_float_kind(kind: GlEnum) -> bool
+    ensures { result ≡ links.is_one_of kind links.float_kinds }
+{
+    matches!(
+        kind,
+        FLOAT | FLOAT_VEC2 | FLOAT_VEC3 | FLOAT_VEC4 | FLOAT_MAT2 | FLOAT_MAT3 | FLOAT_MAT4
+    )
+}
+
 /// Whether uniforms of this type are booleans.
 pub fn is_boolean(kind: GlEnum) -> bool
     ensures { result ≡ links.is_boolean kind }

@@ -37,7 +37,7 @@ impl<T> Model for NameTable<T> {
     ghost use Rattle.std.specs.Ordering.{nat_cmp};
     ghost use Rattle.std.specs.FinMap as map;
     ghost use Rattle.std.specs.Coded.{coded_ℕ};
-    ghost use Rattle.gl_base.specs.Names.{ordinary_count};
+    ghost use Rattle.gl_base.specs.Names.{ordinary_count, AreWords};
     ghost use Rattle.gl_base.specs.declared.limits.TheConstants.{NAME_LIMIT};
 
     ghost Value = { map.FinMap nat_cmp T };
@@ -46,7 +46,7 @@ impl<T> Model for NameTable<T> {
 
     ghost view = { λ a. a.entries };
 
-    ghost invariant = { λ a. (a.ordinary ≡ ordinary_count a.entries) × (a.ordinary ≤ NAME_LIMIT) };
+    ghost invariant = { λ a. (a.ordinary ≡ ordinary_count a.entries) × (a.ordinary ≤ NAME_LIMIT) × AreWords a.entries };
 }
 
 impl<T> NameTable<T> {
@@ -65,6 +65,14 @@ impl<T> NameTable<T> {
         ensures { option_copied result ≡ map.get self.now id }
     {
         self.entries.get(id as u64)
+    }
+
+    /// The names, by rising names, with their values.
+    pub fn entries(&self) -> &NumberMap<T>
+        ensures same { result.now ≡ self.now }
+        ensures words { names.AreWords self.now }
+    {
+        &self.entries
     }
 
     /// Whether so many ordinary names more would be over the limit of 65,536.

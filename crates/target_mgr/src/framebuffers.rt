@@ -3,7 +3,8 @@ ghost use Rattle.std.specs.Prelude.{◌≡◌, ◌≢◌, ◌⊎◌, OnOk, OnErr
 ghost use Rattle.std.specs.Bool.{OnFalse};
 ghost use Rattle.std.specs.FinMap as map;
 ghost use Rattle.gl_base.specs.Names as limits;
-ghost use Rattle.gl_plain.specs.subjects.Names.{named, new_name};
+ghost use Rattle.gl_plain.specs.subjects.Names.{name_of, named, new_name};
+ghost use Rattle.gl_plain.specs.subjects.Parameters.{attached_by};
 ghost use Rattle.gl_plain.specs.subjects.Targets as plain;
 ghost use Rattle.svc_names.specs.Answers.{IsAnswer};
 ghost use Rattle.target_mgr.specs.Named as by_name;
@@ -150,6 +151,23 @@ impl Framebuffers {
     {
         let bound = self.objects.bound();
         self.detach_at(bound, texture, object);
+    }
+
+    /// The name in use that has this number, or 0. It looks at one name after the other.
+    pub fn name_of(&self, number: u64) -> u32
+        ensures { result ≡ name_of (framebuffer_tables self.now).names number }
+    {
+        self.objects.name_of(number)
+    }
+
+    /// What is attached to the framebuffer that is bound, at a point (section 4.4.2). Nothing is attached to the default framebuffer.
+    pub fn attached(&self, point: GlEnum) -> Attached
+        ensures { result ≡ attached_by (map.get (framebuffer_tables self.now).objects (framebuffer_tables self.now).bound) point }
+    {
+        match self.objects.get(self.objects.bound()) {
+            Some(framebuffer) => framebuffer.attached(point),
+            None => Attached::Nothing,
+        }
     }
 
     /// What is drawn to (section 4.4.1).

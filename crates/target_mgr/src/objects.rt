@@ -3,14 +3,14 @@
 ghost use Rattle.std.specs.Prelude.{◌≡◌, ◌≢◌, OnOk, OnErr, IsSome, Some};
 ghost use Rattle.std.specs.FinMap as map;
 ghost use Rattle.gl_base.specs.Names as limits;
-ghost use Rattle.gl_plain.specs.subjects.Names.{named, new_name, unbound};
+ghost use Rattle.gl_plain.specs.subjects.Names.{name_of, named, new_name, unbound};
 ghost use Rattle.gl_plain.specs.subjects.Targets.{no_objects, binding, with_object, bind_effect, delete_effect};
 ghost use Rattle.svc_names.specs.Answers.{IsAnswer};
 ghost use Rattle.target_mgr.specs.Numbered.{AreNumbered};
 ghost use Rattle.target_mgr.specs.Named.{object_named, object_number, with_entry};
 
 use gl_base::NumberMap;
-use gl_plain::Name;
+use gl_plain::{Name, name_of};
 use std::alloc::{AllocError, Global};
 use svc_names::{NameRefusal, NameTable};
 
@@ -60,6 +60,13 @@ impl<T> Objects<T> {
             Some(name) => { if name.is_object { name.number } else { 0 } }
             None => 0,
         }
+    }
+
+    /// The name in use that has this number, or 0. It looks at one name after the other.
+    pub fn name_of(&self, number: u64) -> u32
+        ensures { result ≡ name_of (table_of self.now).names number }
+    {
+        name_of(self.names.entries(), number)
     }
 
     /// Whether so many ordinary names more are too many.

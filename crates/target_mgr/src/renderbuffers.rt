@@ -2,7 +2,7 @@
 ghost use Rattle.std.specs.Prelude.{◌≡◌, ◌≢◌, OnOk, OnErr, IsSome, Some, true, false};
 ghost use Rattle.std.specs.FinMap as map;
 ghost use Rattle.gl_base.specs.Names as limits;
-ghost use Rattle.gl_plain.specs.subjects.Names.{named, new_name};
+ghost use Rattle.gl_plain.specs.subjects.Names.{name_of, named, new_name};
 ghost use Rattle.gl_plain.specs.subjects.Targets as plain;
 ghost use Rattle.gl_plain.specs.subjects.Images.{no_marks, with_mark};
 ghost use Rattle.gl_plain.specs.object.Covers.{bound_marks, deleted_marks};
@@ -94,6 +94,13 @@ impl Renderbuffers {
         ensures { result ≡ (renderbuffer_tables self.now).bound }
     {
         self.objects.bound()
+    }
+
+    /// The name in use that has this number, or 0. It looks at one name after the other.
+    pub fn name_of(&self, number: u64) -> u32
+        ensures { result ≡ name_of (renderbuffer_tables self.now).names number }
+    {
+        self.objects.name_of(number)
     }
 
     /// Deletes a name with its object, which is not bound from then on, and gives what was kept of the name. A name that is not in use

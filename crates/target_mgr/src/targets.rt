@@ -2,7 +2,8 @@
 ghost use Rattle.std.specs.Prelude.{◌≡◌, ◌≢◌, OnOk, OnErr, IsSome, Some, true, false};
 ghost use Rattle.std.specs.FinMap as map;
 ghost use Rattle.gl_base.specs.Names as limits;
-ghost use Rattle.gl_plain.specs.subjects.Names.{named, new_name};
+ghost use Rattle.gl_plain.specs.subjects.Names.{name_of, named, new_name};
+ghost use Rattle.gl_plain.specs.subjects.Parameters.{attached_by};
 ghost use Rattle.gl_plain.specs.subjects.Targets as plain;
 ghost use Rattle.gl_plain.specs.subjects.Images.{no_marks, with_mark};
 ghost use Rattle.gl_plain.specs.object.Covers.{bound_marks, deleted_marks};
@@ -188,6 +189,27 @@ impl Targets {
         ensures { result ≡ (framebuffers self.now).bound }
     {
         self.framebuffers.bound()
+    }
+
+    /// The name of the renderbuffer that is bound, or 0 (section 6.1.1). It looks at one name after the other.
+    pub fn renderbuffer_bound_name(&self) -> u32
+        ensures { result ≡ name_of (renderbuffers self.now).names (renderbuffers self.now).bound }
+    {
+        self.renderbuffers.name_of(self.renderbuffers.bound())
+    }
+
+    /// The name of the framebuffer that is bound, or 0 (section 6.1.1). It looks at one name after the other.
+    pub fn framebuffer_bound_name(&self) -> u32
+        ensures { result ≡ name_of (framebuffers self.now).names (framebuffers self.now).bound }
+    {
+        self.framebuffers.name_of(self.framebuffers.bound())
+    }
+
+    /// What is attached to the framebuffer that is bound, at a point (section 4.4.2). Nothing is attached to the default framebuffer.
+    pub fn attached(&self, point: GlEnum) -> Attached
+        ensures { result ≡ attached_by (map.get (framebuffers self.now).objects (framebuffers self.now).bound) point }
+    {
+        self.framebuffers.attached(point)
     }
 
     /// Gives the renderbuffer that is bound this storage, of which nothing is written (section 4.4.3). It takes no memory.

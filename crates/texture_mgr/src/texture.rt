@@ -1,11 +1,12 @@
 //! A texture object of the service (OpenGL ES 2.0.25, section 3.7.12).
-ghost use Rattle.std.specs.Prelude.{◌≡◌, ◌≤◌, ◌+◌, List, true, is_some, slice_index_or, IfOk, OnOk, OnErr, None, Some};
+ghost use Rattle.std.specs.Prelude.{◌≡◌, ◌≤◌, ◌+◌, true, is_some, IfOk, OnOk, OnErr, None, Some};
 ghost use Rattle.gl_base.specs.declared.limits.TheConstants.{LAST_LEVEL};
 ghost use Rattle.gl_base.specs.Rects.{union_of, whole};
 ghost use Rattle.gl_plain.specs.subjects.Levels as plain;
 ghost use Rattle.gl_plain.specs.subjects.Completeness as completeness;
+ghost use Rattle.gl_plain.specs.subjects.Parameters.{parameter_of};
 ghost use Rattle.gl_plain.specs.subjects.Textures.{with_parameter};
-ghost use Rattle.gl_plain.specs.subjects.Images.{no_rect, extended, rest_at};
+ghost use Rattle.gl_plain.specs.subjects.Images.{extended, rest_at};
 ghost use Rattle.texture_mgr.specs.Kept.{HasCovers, first_written, item_at, is_cover_of, none_written, with_written};
 
 use crate::chain::levels_behind;
@@ -163,6 +164,13 @@ impl Texture {
             Some(cover) => cover.rest(),
             None => ArrayVec::new(),
         }
+    }
+
+    /// A parameter (section 6.1.3). Its name is one of the four.
+    pub fn parameter(&self, pname: GlEnum) -> GlEnum
+        ensures { result ≡ parameter_of self.now.table pname }
+    {
+        self.table.parameter(pname)
     }
 
     /// Sets a parameter (section 3.7.4). What is no parameter, and what it does not take, is refused by INVALID_ENUM. It takes no memory.

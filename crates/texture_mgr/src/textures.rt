@@ -1,10 +1,13 @@
 //! The textures of the service: their names, and what the texture units bind (OpenGL ES 2.0.25, section 3.7).
-ghost use Rattle.std.specs.Prelude.{◌≡◌, ◌≢◌, OnOk, OnErr, IfOk, Some};
+ghost use Rattle.std.specs.Prelude.{◌≡◌, ◌≢◌, ◌≤◌, OnOk, OnErr, IfOk, Some};
 ghost use Rattle.std.specs.FinMap as map;
 ghost use Rattle.gl_base.specs.Names as limits;
+ghost use Rattle.gl_base.specs.declared.limits.TheConstants.{LAST_UNIT};
 ghost use Rattle.gl_plain.specs.subjects.Names.{new_name};
 ghost use Rattle.gl_plain.specs.subjects.Levels.{is_cube_target};
+ghost use Rattle.gl_plain.specs.subjects.Parameters.{get_tex_parameter};
 ghost use Rattle.gl_plain.specs.subjects.Textures as plain;
+ghost use Rattle.gl_plain.specs.subjects.Values as values;
 ghost use Rattle.gl_plain.specs.subjects.Images.{no_covers, without_covers};
 ghost use Rattle.gl_plain.specs.object.Covers.{bound_covers, deleted_covers};
 ghost use Rattle.gl_plain.specs.Oracle.{Oracle};
@@ -15,7 +18,7 @@ ghost use Rattle.texture_mgr.specs.OfTargets.{AreOfTargets};
 use crate::objects::Objects;
 use crate::texture::Texture;
 use gl_base::GlEnum;
-use gl_plain::{Name, TextureUnits, is_cube_target};
+use gl_plain::{Name, TextureUnits, is_cube_target, name_of};
 use std::alloc::{AllocError, Global};
 use svc_names::{NameRefusal, NameTable};
 
@@ -28,6 +31,7 @@ pub struct Textures {
     pub(crate) units: TextureUnits,
     pub ghost numbered: { AreNumbered names },
     pub ghost of_targets: { AreOfTargets objects },
+    pub ghost active: { units.active ≤ LAST_UNIT },
 }
 
 impl Textures {
@@ -74,6 +78,34 @@ impl Textures {
             is_object: false,
         };
         self.names.add(id, name)
+    }
+
+    /// The name of the texture that the active unit binds, a cube map or a flat texture, or 0 (section 6.1.1). It looks at one name after the
+    /// other.
+    pub fn bound_name(&self, cube: bool) -> u32
+        ensures { result ≡ values.bound_name (tables self.now) cube }
+    {
+        name_of(self.names.entries(), self.units.bound(cube))
+    }
+
+    /// The active unit, counted from 0.
+    pub fn active(&self) -> u32
+        ensures value { result ≡ (tables self.now).objects.units.active }
+        ensures few { result ≤ LAST_UNIT }
+    {
+        self.units.active()
+    }
+
+    /// A parameter of the texture that the active unit binds to the target, which is always there (section 6.1.3). The name is one of the
+    /// four.
+    pub fn parameter(&self, target: GlEnum, pname: GlEnum) -> u32
+        ensures { result ≡ get_tex_parameter (tables self.now).objects target pname }
+    {
+        let cube = is_cube_target(target);
+        match self.objects.get(self.units.bound(cube), cube) {
+            Some(texture) => texture.parameter(pname).0,
+            None => 0,
+        }
     }
 
     /// Whether a name's object was first bound to the other target: as a flat texture where a cube map is asked for, or the other way
@@ -152,6 +184,7 @@ impl Textures {
 
     /// Has this unit be the active one (section 3.7).
     pub fn set_active(&mut self, unit: u32)
+        requires { unit ≤ LAST_UNIT }
         ensures tables { tables self.new ≡ with_objects (tables self.old) (plain.active_texture_effect (tables self.old).objects unit) }
         ensures covers { covers self.new ≡ covers self.old }
     {

@@ -9,4 +9,4 @@ mod views;
 
 pub use levels::{zero_faces, zero_level};
 pub use targets::{zero_colour, zero_target};
-pub use views::{is_incomplete, target_status};
+pub use views::{attach_view, is_incomplete, target_status};

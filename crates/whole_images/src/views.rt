@@ -3,7 +3,7 @@ ghost use Rattle.std.specs.Prelude.{◌≡◌};
 ghost use Rattle.gl_plain.specs.State.{Surface};
 ghost use Rattle.gl_plain.specs.subjects.Targets as d;
 ghost use Rattle.texture_mgr.specs.Tables.{tables};
-ghost use Rattle.target_mgr.specs.Tables.{renderbuffers, framebuffers};
+ghost use Rattle.target_mgr.specs.Tables.{renderbuffers};
 ghost use Rattle.whole_images.specs.Views.{drawable};
 
 use gl_base::enums::FRAMEBUFFER_COMPLETE;
@@ -12,7 +12,7 @@ use target_mgr::Targets;
 use texture_mgr::Textures;
 
 /// An attachment as completeness looks at it.
-fn attach_view(textures: &Textures, targets: &Targets, image: Option<AnyImage>) -> AttachView
+pub fn attach_view(textures: &Textures, targets: &Targets, image: Option<AnyImage>) -> AttachView
     ensures { result ≡ d.attach_view (tables textures.now).objects (renderbuffers targets.now).objects image }
 {
     match image {

@@ -5,4 +5,5 @@ pub invariant_of-self : goal.invariant_of-self
 invariant_of-self c = record {
   numbered = numbered-added c.add.result c.args.self.now.names c.add.new.self c.args.id _ c.args.self.now.numbered c.requires c.add.ensures.ok c.add.ensures.err;
   of_targets = c.args.self.now.of_targets;
+  active = c.args.self.now.active;
 }

@@ -1,4 +1,6 @@
-use Rattle.std.proofs.Common.{ap, sym, ◌∙◌}
+use Rattle.std.proofs.Common.{◌≤◌, ap, sym, subst, ◌∙◌}
+use Rattle.gl_base.specs.declared.limits.TheConstants.{LAST_UNIT}
+use Rattle.gl_plain.specs.declared.textures.TextureUnits.{TextureUnits}
 use Rattle.gl_plain.specs.subjects.Textures.{delete_textures_by}
 use Rattle.gl_plain.specs.object.Covers.{deleted_covers}
 use Rattle.texture_mgr.specs.Objects.{covers_of}
@@ -12,6 +14,7 @@ pub invariant_of-self-2 : goal.invariant_of-self-2
 invariant_of-self-2 c = record {
   numbered = numbered-remove c.args.self.now.names c.remove.new.self c.args.id c.args.self.now.numbered c.in-Some.ensures.rest;
   of_targets = record { flat = c.args.self.now.of_targets.flat; cube = c.args.self.now.of_targets.cube };
+  active = subst (λ (u : TextureUnits). u.active ≤ LAST_UNIT) (sym c.unbind.ensures) c.args.self.now.active;
 }
 
 pub returns-clause-tables : goal.returns-clause-tables

@@ -11,6 +11,7 @@ invariant_of-self-2 c = record {
   numbered = numbered-insert c.args.self.now.names c.replace.new.self c.args.id _ c.args.self.now.numbered (c.args.self.now.numbered c.args.id _ c.requires)
       (OnTrue_at (c.replace.ensures.found ∙ ap is_some c.requires) c.replace.ensures.replaced);
   of_targets = record { flat = c.args.self.now.of_targets.flat; cube = c.args.self.now.of_targets.cube };
+  active = c.args.self.now.active;
 }
 
 pub returns-clause-ok : goal.returns-clause-ok
