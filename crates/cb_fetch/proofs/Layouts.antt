@@ -1,30 +1,21 @@
--- Layouts of commands that are built, and what the tests of a header leave.
+-- Layouts of commands, and what the tests of a header leave.
 use Rattle.std.proofs.Common.{◌≡◌, ◌∙◌, sym, ℕ, Bool, ◌+◌, ◌==◌, ◌<◌, ◌≤◌, ◌⊎◌, inl, inr, true, false, cond, nat_lt, nat_le, [], refl, ap, Option, None, Some, IfSome, arith, subst}
 use Rattle.std.proofs.lemmas.Bool.Decides.{nat_tests}
 use Rattle.gl_plain.specs.declared.commands.Malformed.{Malformed}
 use Rattle.gl_plain.specs.declared.commands.Malformed.TheVariants.{OutOfBounds, InvalidSize, InvalidArguments}
-use Rattle.gl_plain.specs.Commands.{is_known}
 use Rattle.cb_format.specs.declared.layouts.Layout.{Layout}
 use Rattle.cb_format.specs.declared.layouts.Plan.TheVariants as plan
-use Rattle.cb_format.specs.Layouts.{IsFitting, built_layout, layout_of}
+use Rattle.cb_format.specs.Layouts.{IsFitting, layout_of}
 use Rattle.cb_format.specs.Plans.{bucket_plan, plan_in, plan_by, plan_of}
 use Rattle.cb_format.specs.Ring.{first_fault, layout_fault, number_in, size_in, ready}
 use Rattle.cb_format.proofs.Fitting.{layout_of_fits}
 use Rattle.cb_fetch.specs.Begun.{word_count, words_in}
 use Rattle.cb_fetch.specs.Steps.{HasLayout}
 
--- what is built has a layout
-built_is_laid_out : (known : Bool) (l : Layout) (o : Option Layout) → cond known o None ≡ Some l → o ≡ Some l
-built_is_laid_out true l o e = e
-built_is_laid_out false l o e = cc
+fits : (number : ℕ) (l : Layout) → layout_of number ≡ Some l → IsFitting l
+fits number l e = subst (λ (o : Option Layout). IfSome o IsFitting) e (layout_of_fits number)
 
-pub laid_out : (number : ℕ) (l : Layout) → built_layout number ≡ Some l → layout_of number ≡ Some l
-laid_out number l e = built_is_laid_out (is_known number) l (layout_of number) e
-
-fits : (number : ℕ) (l : Layout) → built_layout number ≡ Some l → IsFitting l
-fits number l e = subst (λ (o : Option Layout). IfSome o IsFitting) (laid_out number l e) (layout_of_fits number)
-
-pub words_of : (header : ℕ) (l : Layout) → built_layout (number_in header) ≡ Some l → word_count header ≡ l.words
+pub words_of : (header : ℕ) (l : Layout) → layout_of (number_in header) ≡ Some l → word_count header ≡ l.words
 words_of header l e = ap words_in e
 
 -- all tests before the last one of a header hold
@@ -36,9 +27,9 @@ none_of false false true last e = cc
 none_of false false false last e = (refl, refl, refl, e)
 
 module _ (entries put get header : ℕ) (fair : first_fault entries put get header ≡ None) where
-  tests : (nat_le entries put ≡ false) × ((size_in header == 0) ≡ false) × (nat_lt (ready entries put get) (size_in header) ≡ false) × (layout_fault (size_in header) (built_layout (number_in header)) ≡ None)
+  tests : (nat_le entries put ≡ false) × ((size_in header == 0) ≡ false) × (nat_lt (ready entries put get) (size_in header) ≡ false) × (layout_fault (size_in header) (layout_of (number_in header)) ≡ None)
   unfolding first_fault
-  tests = none_of (nat_le entries put) (size_in header == 0) (nat_lt (ready entries put get) (size_in header)) (layout_fault (size_in header) (built_layout (number_in header))) fair
+  tests = none_of (nat_le entries put) (size_in header == 0) (nat_lt (ready entries put get) (size_in header)) (layout_fault (size_in header) (layout_of (number_in header))) fair
 
   -- the size of a command that passed the tests of its header is at most what is ready
   pub put_below : put < entries
@@ -70,7 +61,7 @@ sized size l fitting e lt = by_size (has_size l.any_size (size == l.words + 1) e
   by_size (inr same) = grind (arith, nat_tests)
 
 -- what the five tests of a header leave
-pub has_layout : (entries put get header : ℕ) (l : Layout) → get < entries → built_layout (number_in header) ≡ Some l → first_fault entries put get header ≡ None → HasLayout entries get header l
+pub has_layout : (entries put get header : ℕ) (l : Layout) → get < entries → layout_of (number_in header) ≡ Some l → first_fault entries put get header ≡ None → HasLayout entries get header l
 has_layout entries put get header l lt known fair =
     let fitting = fits (number_in header) l known in
     record {
@@ -94,8 +85,8 @@ bare_by None None most words e p r = refl
 bare_by (Some at) reply most words e p r = absurd (omega (arith, p))
 bare_by None (Some at) most words e p r = absurd (omega (arith, r))
 
-bare_in : (number : ℕ) (l : Layout) → built_layout number ≡ Some l → l.words ≡ 0 → plan_in (layout_of number) [] ≡ plan.Nothing
-bare_in number l e none = rw (laid_out number l e) (bare_by l.payload_at l.result_at l.result_words l.words none (fits number l e).payload_ends (fits number l e).result_ends)
+bare_in : (number : ℕ) (l : Layout) → layout_of number ≡ Some l → l.words ≡ 0 → plan_in (layout_of number) [] ≡ plan.Nothing
+bare_in number l e none = rw e (bare_by l.payload_at l.result_at l.result_words l.words none (fits number l e).payload_ends (fits number l e).result_ends)
 
 words_in_layout : Option Layout → ℕ
 words_in_layout None = 0
@@ -106,15 +97,15 @@ five_words : words_in_layout (layout_of 5) ≡ 5
 unfolding layout_of words_in_layout
 five_words = refl
 
-not_five : (number : ℕ) (l : Layout) → built_layout number ≡ Some l → l.words ≡ 0 → (number == 5) ≡ true → ⊥
+not_five : (number : ℕ) (l : Layout) → layout_of number ≡ Some l → l.words ≡ 0 → (number == 5) ≡ true → ⊥
 unfolding words_in_layout
 not_five number l e none five =
     let is : number ≡ 5 = grind (arith, nat_tests) in
-    let there : layout_of 5 ≡ Some l = subst (λ n. layout_of n ≡ Some l) is (laid_out number l e) in
+    let there : layout_of 5 ≡ Some l = subst (λ n. layout_of n ≡ Some l) is e in
     let words : 5 ≡ l.words = sym five_words ∙ ap words_in_layout there in
     absurd (omega arith)
 
-pub bare_plan : (number : ℕ) (l : Layout) → built_layout number ≡ Some l → l.words ≡ 0 → plan_of number [] ≡ plan.Nothing
+pub bare_plan : (number : ℕ) (l : Layout) → layout_of number ≡ Some l → l.words ≡ 0 → plan_of number [] ≡ plan.Nothing
 bare_plan number l e none = chosen (number == 5) (not_five number l e none) where
   chosen : (b : Bool) → (b ≡ true → ⊥) → cond b (bucket_plan []) (plan_in (layout_of number) []) ≡ plan.Nothing
   chosen true apart = absurd (apart refl)

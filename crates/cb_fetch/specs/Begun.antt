@@ -7,7 +7,7 @@ use Rattle.gl_plain.specs.Bytes.{word_at, words_from}
 use Rattle.cb_format.specs.declared.layouts.Layout.{Layout}
 use Rattle.cb_format.specs.declared.layouts.Plan.{Plan}
 use Rattle.cb_format.specs.declared.layouts.Plan.TheVariants as plan
-use Rattle.cb_format.specs.Layouts.{built_layout}
+use Rattle.cb_format.specs.Layouts.{layout_of}
 use Rattle.cb_format.specs.Plans.{plan_of}
 use Rattle.cb_format.specs.Ring.{number_in, first_fault, range_fault}
 
@@ -30,7 +30,7 @@ words_in (Some l) = l.words
 
 -- how many words the command of a header has; those of a Noop are not read
 abbrev pub word_count : ℕ → ℕ
-word_count header = words_in (built_layout (number_in header))
+word_count header = words_in (layout_of (number_in header))
 
 -- the header at get
 abbrev pub header_range : ℕ → Range

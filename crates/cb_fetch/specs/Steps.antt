@@ -5,7 +5,7 @@ use Rattle.cb_format.specs.declared.layouts.Layout.{Layout}
 use Rattle.cb_format.specs.declared.layouts.Plan.{Plan}
 use Rattle.cb_format.specs.declared.layouts.Plan.TheVariants as plan
 use Rattle.cb_format.specs.Headers.{header_of, header_word}
-use Rattle.cb_format.specs.Layouts.{IsFitting, built_layout}
+use Rattle.cb_format.specs.Layouts.{IsFitting, layout_of}
 use Rattle.cb_format.specs.Ring.{number_in, size_in}
 use Rattle.cb_fetch.specs.declared.outcome.FetchOutcome.{FetchOutcome}
 use Rattle.cb_fetch.specs.declared.stages.Start.{Start}
@@ -23,7 +23,7 @@ pub record Gave (m : MemoryView) (range : Range) (bytes : List ℕ) (m2 : Memory
 
 -- a header that passed its five tests, of a command with this layout
 pub record HasLayout (entries get header : ℕ) (layout : Layout) : Type 0 where
-  pub known : built_layout (number_in header) ≡ Some layout
+  pub known : layout_of (number_in header) ≡ Some layout
   pub fitting : IsFitting layout
   pub sized : 0 < layout.words → size_in header ≡ layout.words + 1
   pub some : 0 < size_in header

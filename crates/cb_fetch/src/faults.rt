@@ -1,21 +1,13 @@
 //! The tests of a command: five of its header, and the sixth of the range that its words name.
-ghost use Rattle.std.specs.Prelude.{◌≡◌, ◌<◌, ◌^◌, IfSome, IfOk, IfErr, None, Some, is_none};
-ghost use Rattle.cb_format.specs.Layouts.{IsFitting, built_layout};
+ghost use Rattle.std.specs.Prelude.{◌≡◌, ◌<◌, ◌^◌, IfOk, IfErr, None, Some, is_none};
+ghost use Rattle.cb_format.specs.Layouts.{IsFitting};
 ghost use Rattle.cb_format.specs.Ring as ring;
 ghost use Rattle.cb_fetch.specs.Steps.{IsFront, IsStart};
 
 use crate::stages::Start;
-use cb_format::{Header, Layout, Plan, known, layout};
+use cb_format::{Header, Layout, Plan, layout};
 use cb_shm::Shm;
 use gl_plain::Malformed;
-
-/// The layout of a command, or none for a number that is not built.
-fn built(number: u32) -> Option<Layout>
-    ensures value { result ≡ built_layout number }
-    ensures fitting { IfSome result IsFitting }
-{
-    if known(number) { layout(number) } else { None }
-}
 
 /// How many entries are ready from get on. A command does not cross the ring's end.
 fn ready(entries: u32, put: u32, get: u32) -> u32
@@ -48,7 +40,7 @@ pub fn start(entries: u32, put: u32, get: u32, word: u32) -> Result<Start, Malfo
     if ready(entries, put, get) < header.size {
         return Err(Malformed::OutOfBounds);
     }
-    match built(header.number) {
+    match layout(header.number) {
         None => Err(Malformed::UnknownCommand),
         Some(layout) if has_size(header.size, layout) => Ok(Start { header, layout }),
         Some(_) => Err(Malformed::InvalidArguments),

@@ -5,7 +5,7 @@ use Rattle.gl_plain.specs.declared.commands.Malformed.TheVariants.{InvalidSize, 
 use Rattle.cb_format.specs.declared.layouts.Layout.{Layout}
 use Rattle.cb_format.specs.declared.layouts.Plan.{Plan}
 use Rattle.cb_format.specs.declared.layouts.Plan.TheVariants.{Nothing, Read, Write}
-use Rattle.cb_format.specs.Layouts.{built_layout}
+use Rattle.cb_format.specs.Layouts.{layout_of}
 use Rattle.gl_plain.specs.Regions.{is_inside}
 
 -- the low 21 bits of a header: the entries of the command, with the header
@@ -31,7 +31,7 @@ first_fault entries put get header =
     if nat_le entries put then Some OutOfBounds
     else if size_in header == 0 then Some InvalidSize
     else if nat_lt (ready entries put get) (size_in header) then Some OutOfBounds
-    else layout_fault (size_in header) (built_layout (number_in header))
+    else layout_fault (size_in header) (layout_of (number_in header))
 
 -- the sixth test: the range that the words name does not lie in a region that is there
 abbrev pub range_fault : (ℕ → Option ℕ) → Plan → Option Malformed

@@ -13,7 +13,7 @@ pub use gl_plain::Fetched;
 pub use headers::Header;
 pub use layouts::{Layout, Plan};
 pub use ranges::{laid_out_plan, plan};
-pub use tables::{known, layout};
+pub use tables::layout;
 
 #[cfg(test)]
 mod tests;

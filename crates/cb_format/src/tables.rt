@@ -1,11 +1,8 @@
 //! The table of layouts, by number.
-ghost use Rattle.std.specs.Prelude.{◌≡◌, IfSome, IsSome};
-ghost use Rattle.std.specs.Bool.{OnTrue};
-ghost use Rattle.gl_plain.specs.Commands.{is_known};
+ghost use Rattle.std.specs.Prelude.{◌≡◌, IfSome};
 ghost use Rattle.cb_format.specs.Layouts.{IsFitting, layout_of};
 
 use crate::layouts::Layout;
-use gl_plain::is_known;
 use gl_plain::numbers::ACTIVE_TEXTURE;
 
 /// The number of the first command of OpenGL ES.
@@ -172,13 +169,4 @@ pub fn layout(number: u32) -> Option<Layout>
     } else {
         GL_LAYOUTS.get((number - FIRST_OF_GL) as usize).copied()
     }
-}
-
-/// Whether the command is one of those that are built so far.
-#[tactic(auto, using(crate::proofs::Built::known_is_laid_out))]
-pub fn known(number: u32) -> bool
-    ensures value { result ≡ is_known number }
-    ensures laid_out { OnTrue result (IsSome (layout_of number)) }
-{
-    is_known(number)
 }

@@ -1,5 +1,5 @@
 //! Worked rows: the tables' edges, each shape of a layout, plans by their source, and one command as bytes.
-use crate::{Command, Header, Layout, Plan, known, layout, plan};
+use crate::{Command, Header, Layout, Plan, layout, plan};
 use arrayvec::ArrayVec;
 use std::test::*;
 
@@ -23,10 +23,6 @@ fn tables_end_where_they_do(rt: HostRuntime) {
     assert!(rt; layout(344).is_some());
     assert_eq!(rt; layout(345), None);
     assert_eq!(rt; layout(u32::MAX), None);
-    assert!(rt; known(2) && known(5) && !known(6) && !known(255));
-    assert!(rt; known(256) && known(267) && known(279) && known(280));
-    assert!(rt; known(323) && known(324) && known(325));
-    assert!(rt; known(327) && !known(328));
 }
 
 #[test]
