@@ -3,3 +3,7 @@ mod Padded
 mod Refused
 mod ReadDone
 mod Family
+mod Lent
+mod QueriedState
+mod Longest
+mod Entries

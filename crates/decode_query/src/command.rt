@@ -6,12 +6,18 @@ ghost use Rattle.gl_plain.specs.declared.commands.Command as commands;
 ghost use Rattle.gl_plain.specs.declared.commands.QueryCommand as queries;
 ghost use Rattle.gl_plain.specs.declared.commands.Command.TheVariants.{Query};
 ghost use Rattle.gl_driver.specs.Performed.{Acts, IsLawful};
-ghost use Rattle.decode_query.specs.States.{queries_in, means, IsReady};
+ghost use Rattle.decode_query.specs.States.{all_in, means, IsReady};
 
+use crate::answers::word_query_reply;
+use crate::asked::Asked;
+use crate::bytes::byte_query;
 use crate::reading::read_pixels;
 use crate::refusals::refusal;
+use attrib_mgr::Attribs;
+use buffer_mgr::Buffers;
 use gl_driver::Driver;
 use gl_plain::{Command, Errors, ExecStop, Fetched, QueryCommand, Reply};
+use program_mgr::Programs;
 use std::alloc::Global;
 use svc_raster::Raster;
 use target_mgr::Targets;
@@ -20,21 +26,37 @@ use texture_mgr::Textures;
 /// A query that is not refused.
 fn execute<D: Driver>(
     alloc: Global,
+    buffers: &Buffers,
     textures: &mut Textures,
     targets: &mut Targets,
+    programs: &Programs,
+    attribs: &Attribs,
     raster: &Raster,
     errors: &mut Errors,
     command: QueryCommand,
     driver: &mut D,
 ) -> Result<Reply, ExecStop>
-    requires { IsReady command (queries_in textures.old targets.old raster.now errors.old) (D.history driver.old).state }
-    ensures { Acts D.history D.grown (means command) (queries_in textures.old targets.old raster.now errors.old) (queries_in textures.new targets.new raster.now errors.new) driver.old driver.new result }
+    requires { IsReady command (all_in buffers.now textures.old targets.old programs.now attribs.now raster.now errors.old) (D.history driver.old).state }
+    ensures { Acts D.history D.grown (means command) (all_in buffers.now textures.old targets.old programs.now attribs.now raster.now errors.old) (all_in buffers.now textures.new targets.new programs.now attribs.now raster.now errors.new) driver.old driver.new result }
 {
+    let asked = Asked {
+        buffers,
+        textures,
+        targets,
+        programs,
+        attribs,
+        raster,
+    };
     match command {
         QueryCommand::ReadPixels { words, bucket } => {
             read_pixels(alloc, textures, targets, raster, words, bucket, driver)
         }
         QueryCommand::GetError => Ok(Reply::Error(errors.take())),
+        QueryCommand::Words(query) => Ok(word_query_reply(alloc, asked, query)?),
+        QueryCommand::Bytes { query, bucket: _ } => {
+            let bytes = byte_query(alloc, programs, query)?;
+            Ok(Reply::Bytes(bytes))
+        }
     }
 }
 
@@ -43,39 +65,57 @@ fn execute<D: Driver>(
 /// that it reads is zeroed.
 pub fn execute_query<D: Driver>(
     alloc: Global,
+    buffers: &Buffers,
     textures: &mut Textures,
     targets: &mut Targets,
+    programs: &Programs,
+    attribs: &Attribs,
     raster: &Raster,
     errors: &mut Errors,
     command: QueryCommand,
     driver: &mut D,
 ) -> Result<Reply, ExecStop>
-    requires agrees { AgreesIn (queries_in textures.old targets.old raster.now errors.old) (D.history driver.old).state }
-    ensures { (payload : List ℕ) → IsLawful D.history D.grown (Query command) payload (queries_in textures.old targets.old raster.now errors.old) (queries_in textures.new targets.new raster.now errors.new) driver.old driver.new result }
+    requires agrees { AgreesIn (all_in buffers.now textures.old targets.old programs.now attribs.now raster.now errors.old) (D.history driver.old).state }
+    ensures { (payload : List ℕ) → IsLawful D.history D.grown (Query command) payload (all_in buffers.now textures.old targets.old programs.now attribs.now raster.now errors.old) (all_in buffers.now textures.new targets.new programs.now attribs.now raster.now errors.new) driver.old driver.new result }
 {
-    if let Some(error) = refusal(textures, targets, raster, command) {
+    let asked = Asked {
+        buffers,
+        textures,
+        targets,
+        programs,
+        attribs,
+        raster,
+    };
+    if let Some(error) = refusal(asked, command) {
         errors.note(error);
         return Ok(Reply::None);
     }
-    execute(alloc, textures, targets, raster, errors, command, driver)
+    execute(
+        alloc, buffers, textures, targets, programs, attribs, raster, errors, command, driver,
+    )
 }
 
 /// Executes a query as it was read. It does what `execute_query` does with the command that its words spell.
 pub fn query_command<D: Driver>(
     alloc: Global,
+    buffers: &Buffers,
     textures: &mut Textures,
     targets: &mut Targets,
+    programs: &Programs,
+    attribs: &Attribs,
     raster: &Raster,
     errors: &mut Errors,
     command: &Fetched,
     driver: &mut D,
 ) -> Result<Reply, ExecStop>
     requires family { (c : queries.QueryCommand) × (command_of command.now ≡ Some (Query c)) }
-    requires agrees { AgreesIn (queries_in textures.old targets.old raster.now errors.old) (D.history driver.old).state }
-    ensures { (c : commands.Command) → command_of command.now ≡ Some c → (payload : List ℕ) → IsLawful D.history D.grown c payload (queries_in textures.old targets.old raster.now errors.old) (queries_in textures.new targets.new raster.now errors.new) driver.old driver.new result }
+    requires agrees { AgreesIn (all_in buffers.now textures.old targets.old programs.now attribs.now raster.now errors.old) (D.history driver.old).state }
+    ensures { (c : commands.Command) → command_of command.now ≡ Some c → (payload : List ℕ) → IsLawful D.history D.grown c payload (all_in buffers.now textures.old targets.old programs.now attribs.now raster.now errors.old) (all_in buffers.now textures.new targets.new programs.now attribs.now raster.now errors.new) driver.old driver.new result }
 {
     let Some(Command::Query(query)) = command.command() else {
         unreachable!();
     };
-    execute_query(alloc, textures, targets, raster, errors, query, driver)
+    execute_query(
+        alloc, buffers, textures, targets, programs, attribs, raster, errors, query, driver,
+    )
 }
