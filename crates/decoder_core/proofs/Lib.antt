@@ -3,7 +3,6 @@ pub mod Fronts
 mod Payloads
 mod Executions
 mod Delivered
-mod ReplySizes
 mod CarriedOut
 mod ReadSteps
 pub mod RunsOn

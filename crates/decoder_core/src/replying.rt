@@ -1,7 +1,7 @@
 //! Replies as they are written into shared memory.
-ghost use Rattle.std.specs.Prelude.{◌≡◌, ◌≤◌, ◌*◌, ◌∷◌, length, OnOk, OnErr};
+ghost use Rattle.std.specs.Prelude.{◌≡◌, ◌∷◌, [], OnOk, OnErr, IfOk};
 ghost use Rattle.gl_plain.specs.Agreement.{Agrees};
-ghost use Rattle.cb_format.specs.Replied.{reply_bytes, reply_words};
+ghost use Rattle.cb_format.specs.Replied.{counted, reply_bytes};
 ghost use Rattle.cb_shm.specs.Memory.{stored};
 ghost use Rattle.cb_fetch.specs.Readable.{IsReadable};
 ghost use Rattle.decoder_core.specs.Execution.{state_of};
@@ -9,51 +9,83 @@ ghost use Rattle.decoder_core.specs.Replying.{replied, CarriesOut};
 
 use crate::outcome::ServiceStop;
 use crate::tables::Tables;
-use arrayvec::ArrayVec;
 use byteorder::{ByteOrder, LittleEndian};
 use cb_format::{Plan, plan};
 use cb_shm::{Shm, ShmRefusal};
 use gl_driver::Driver;
 use gl_plain::{Fetched, Reply};
+use std::alloc::{AllocError, Global};
 
-/// How many words a reply has, and then the words.
-fn words(reply: &Reply) -> ArrayVec<u32, 17>
-    ensures exact { result.items ≡ length (reply_words reply.now) ∷ reply_words reply.now }
-    ensures few { length result.items ≤ 17 }
+/// How many words of 32 bits there are.
+const WORDS: usize = 1 << 32;
+
+/// The bytes of a reply of one word: the number 1, and then the word.
+fn one_word(word: u32) -> [u8; 8]
+    ensures { result ≡ counted (word ∷ []) }
 {
-    let mut words = ArrayVec::new();
-    match reply {
-        Reply::Word(word) => {
-            words.push(1);
-            words.push(*word);
-        }
-        Reply::Error(code) => {
-            words.push(1);
-            words.push(*code);
-        }
-        Reply::None | Reply::Names(_) | Reply::Bytes(_) => words.push(0),
+    let mut bytes = [0; 8];
+    LittleEndian::write_u32_into(&[1, word], &mut bytes);
+    bytes
+}
+
+/// How many words there are, and then the words, as bytes.
+fn counted_bytes(alloc: Global, words: &[u32]) -> Result<Vec<u8>, AllocError>
+    ensures { IfOk result (λ bytes. bytes.items ≡ counted words.now) }
+{
+    let count = (words.len() % WORDS) as u32;
+    let mut bytes = Vec::new(alloc);
+    bytes.extend_from_slice(&count.to_le_bytes())?;
+    for word in words {
+        bytes.extend_from_slice(&word.to_le_bytes())?;
     }
-    words
+    Ok(bytes)
+}
+
+/// Writes a list of words at a place: how many there are, and then the words.
+fn put_words<S: Shm>(
+    alloc: Global,
+    shm: &mut S,
+    region: u32,
+    offset: u32,
+    words: &[u32],
+) -> Result<(), ShmRefusal>
+    ensures written { OnOk result (S.memory shm.new ≡ stored (S.memory shm.old) region offset (counted words.now)) }
+    ensures refused { OnErr result (S.memory shm.new ≡ S.memory shm.old) }
+    ensures grows { S.grown shm.old shm.new }
+{
+    match counted_bytes(alloc, words) {
+        Ok(bytes) => shm.put(region, offset, bytes.as_slice()),
+        Err(_) => Err(ShmRefusal::NoMemory),
+    }
 }
 
 /// Writes a reply at a place: its bytes as they are, or else how many words it has, and then the words.
-fn put_reply<S: Shm>(shm: &mut S, region: u32, offset: u32, reply: &Reply) -> Result<(), ShmRefusal>
+fn put_reply<S: Shm>(
+    alloc: Global,
+    shm: &mut S,
+    region: u32,
+    offset: u32,
+    reply: &Reply,
+) -> Result<(), ShmRefusal>
     ensures written { OnOk result (S.memory shm.new ≡ stored (S.memory shm.old) region offset (reply_bytes reply.now)) }
     ensures refused { OnErr result (S.memory shm.new ≡ S.memory shm.old) }
     ensures grows { S.grown shm.old shm.new }
 {
-    if let Reply::Bytes(bytes) = reply {
-        return shm.put(region, offset, bytes.as_slice());
+    match reply {
+        Reply::Bytes(bytes) => shm.put(region, offset, bytes.as_slice()),
+        Reply::Words(words) => put_words(alloc, shm, region, offset, words.as_slice()),
+        Reply::Word(word) | Reply::Error(word) => shm.put(region, offset, &one_word(*word)),
+        Reply::None | Reply::Names(_) => shm.put(region, offset, &[0; 4]),
     }
-    let words = words(reply);
-    let mut bytes = [0u8; 68];
-    let size = 4 * words.len();
-    LittleEndian::write_u32_into(words.as_slice(), &mut bytes[..size]);
-    shm.put(region, offset, &bytes[..size])
 }
 
 /// Writes the reply of a command where its words say, if they do.
-fn write_reply<S: Shm>(shm: &mut S, command: &Fetched, reply: &Reply) -> Result<(), ShmRefusal>
+fn write_reply<S: Shm>(
+    alloc: Global,
+    shm: &mut S,
+    command: &Fetched,
+    reply: &Reply,
+) -> Result<(), ShmRefusal>
     requires { IsReadable command.now }
     ensures written { OnOk result (S.memory shm.new ≡ replied (S.memory shm.old) command.now reply.now) }
     ensures refused { OnErr result (S.memory shm.new ≡ S.memory shm.old) }
@@ -61,7 +93,7 @@ fn write_reply<S: Shm>(shm: &mut S, command: &Fetched, reply: &Reply) -> Result<
 {
     match plan(command.number, command.words.as_slice()) {
         Plan::Nothing | Plan::Read { .. } => Ok(()),
-        Plan::Write { region, offset, .. } => put_reply(shm, region, offset, reply),
+        Plan::Write { region, offset, .. } => put_reply(alloc, shm, region, offset, reply),
     }
 }
 
@@ -81,7 +113,7 @@ pub fn carry_out<S: Shm, D: Driver>(
         Ok(reply) => reply,
         Err(stop) => return Err(ServiceStop::at(command.place, stop)),
     };
-    match write_reply(shm, command, &reply) {
+    match write_reply(tables.alloc(), shm, command, &reply) {
         Ok(()) => Ok(reply),
         Err(_) => Err(ServiceStop::NoMemory),
     }

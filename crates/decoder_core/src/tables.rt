@@ -1,12 +1,11 @@
 //! The tables of the service, and the execution of one command by them.
-ghost use Rattle.std.specs.Prelude.{◌≡◌, ◌≤◌, ℕ, List, length, false, Some, IfOk, IfSome, OnOk, is_none};
+ghost use Rattle.std.specs.Prelude.{◌≡◌, ℕ, List, false, Some, IfOk, IfSome, OnOk, is_none};
 ghost use Rattle.gl_plain.specs.declared.commands.Command.TheVariants.{Bucket, Query, SetToken};
 ghost use Rattle.gl_plain.specs.declared.commands.BucketCommand.TheVariants as buckets;
-ghost use Rattle.gl_base.specs.declared.limits.TheConstants.{DATA_LIMIT};
 ghost use Rattle.gl_plain.specs.declared.commands.Fetched as fetched;
 ghost use Rattle.gl_plain.specs.Commands.{command_of};
 ghost use Rattle.gl_plain.specs.subjects.Buckets as buckets_of;
-ghost use Rattle.gl_plain.specs.subjects.Buckets.{IsBucketData, breaks_bucket_rule, data_given, is_no_bucket, reply_bytes, with_reply};
+ghost use Rattle.gl_plain.specs.subjects.Buckets.{IsBucketData, breaks_bucket_rule, data_given, is_no_bucket, with_reply};
 
 use attrib_mgr::Attribs;
 use bucket_store::Buckets;
@@ -32,6 +31,9 @@ const IN_MEMORY: u32 = 1;
 
 /// The source of data in a bucket.
 const IN_BUCKET: u32 = 2;
+
+/// How many words of 32 bits there are.
+const WORDS: usize = 1 << 32;
 
 /// The tables of the service.
 #[derive(Drop)]
@@ -110,6 +112,11 @@ impl Tables {
         })
     }
 
+    /// Where memory comes from.
+    pub fn alloc(&self) -> Global {
+        self.alloc
+    }
+
     /// The token that was set last, or 0.
     pub fn token(&self) -> u32
         ensures { result ≡ (state_of self.now).token }
@@ -166,7 +173,8 @@ impl Tables {
         if bucket > LAST_BUCKET {
             return Err(ExecStop::Bad(Malformed::InvalidArguments));
         }
-        Ok(Reply::Word(self.buckets.read(bucket).len() as u32))
+        let size = self.buckets.read(bucket).len();
+        Ok(Reply::Word((size % WORDS) as u32))
     }
 
     /// GetBucketData: the reply is so many of the bucket's bytes.
@@ -209,15 +217,13 @@ impl Tables {
 
     /// Gives a bucket the bytes of a reply. A refused command has none.
     fn deliver(&mut self, bucket: u32, reply: &Reply) -> Result<(), AllocError>
-        requires bucket { is_no_bucket bucket ≡ false }
-        requires size { length (reply_bytes reply.now) ≤ DATA_LIMIT }
+        requires { is_no_bucket bucket ≡ false }
         ensures ok { OnOk result (state_of self.new ≡ record (state_of self.old) { buckets = with_reply (state_of self.old).buckets (Some bucket) reply.now }) }
     {
         let bytes = match reply {
             Reply::Bytes(bytes) => Bytes::from_slice(self.alloc, bytes.as_slice())?,
-            Reply::None | Reply::Word(_) | Reply::Names(_) | Reply::Error(_) => {
-                Bytes::new(self.alloc)
-            }
+            Reply::None | Reply::Word(_) | Reply::Words(_) | Reply::Names(_) | Reply::Error(_) =>
+                Bytes::new(self.alloc),
         };
         self.buckets.give(bucket, bytes);
         Ok(())
@@ -234,8 +240,11 @@ impl Tables {
         }
         let reply = execute_query(
             self.alloc,
+            &self.buffers,
             &mut self.textures,
             &mut self.targets,
+            &self.programs,
+            &self.attribs,
             &self.raster,
             &mut self.errors,
             command,

@@ -10,13 +10,13 @@ use gl_base::error_name;
 use gl_plain::{Bytes, Reply};
 use std::alloc::{AllocError, Global};
 
-/// Writes each name with a space before it.
-fn write_names(line: &mut Vec<u8>, names: &[u32]) -> Result<(), AllocError>
-    ensures { OnOk result (line.new.items ≡ line.old.items ++ spaced (map decimal names.now)) }
+/// Writes each number with a space before it.
+fn write_numbers(line: &mut Vec<u8>, numbers: &[u32]) -> Result<(), AllocError>
+    ensures { OnOk result (line.new.items ≡ line.old.items ++ spaced (map decimal numbers.now)) }
 {
-    for name in names {
+    for number in numbers {
         line.extend_from_slice(b" ")?;
-        write_number(line, u64::from(*name))?;
+        write_number(line, u64::from(*number))?;
     }
     Ok(())
 }
@@ -54,10 +54,16 @@ impl Line for Reply {
                 write_number(line, u64::from(*word))?;
                 line.extend_from_slice(b"\n")
             }
+            Reply::Words(words) => {
+                write_front(line, number)?;
+                line.extend_from_slice(b" words")?;
+                write_numbers(line, words.as_slice())?;
+                line.extend_from_slice(b"\n")
+            }
             Reply::Names(names) => {
                 write_front(line, number)?;
                 line.extend_from_slice(b" names")?;
-                write_names(line, names.as_slice())?;
+                write_numbers(line, names.as_slice())?;
                 line.extend_from_slice(b"\n")
             }
             Reply::Bytes(bytes) => {
