@@ -32,6 +32,8 @@ UNSIGNED_BYTE, UNSIGNED_SHORT, FLOAT, BLEND, TRIANGLES = 0x1401, 0x1403, 0x1406,
 GEN_FRAMEBUFFERS, BIND_FRAMEBUFFER, DELETE_FRAMEBUFFERS, FRAMEBUFFER_TEXTURE_2D, CLEAR, READ_PIXELS = 275, 276, 277, 278, 321, 324
 TEXTURE_2D, TEXTURE0, RGBA = 0x0DE1, 0x84C0, 0x1908
 FRAMEBUFFER, COLOR_ATTACHMENT0, COLOR_BUFFER_BIT = 0x8D40, 0x8CE0, 0x4000
+DELETE_TEXTURES, DELETE_SHADER, DELETE_PROGRAM, DELETE_RENDERBUFFERS = 264, 283, 291, 273
+DEPTH_ATTACHMENT, RENDERBUFFER, DEPTH_COMPONENT16, ONE = 0x8D00, 0x8D41, 0x81A5, 0x3F800000
 
 
 def command(number, *words):
@@ -300,6 +302,55 @@ def overwrites_at_once(n):
     return overwrites(lambda k: 0, n)
 
 
+# One round of all 95 commands, each of which goes well, as words. It leaves the tables as they were: what is made in it is deleted in it.
+# Data lies in region 1, and replies go there, behind it.
+MIXED_DATA = struct.pack("<4f", 1, 2, 3, 4) + bytes((0, 1, 2, 0)) + b"pos"
+AT_FLOATS, AT_INDICES, AT_NAME, AT_REPLY = 0, 16, 20, 24
+REPLY = (1, AT_REPLY)
+MIXED = [
+    # Objects
+    (NOOP, 0), (1, 7), (GEN_BUFFERS, 1), (BIND_BUFFER, ARRAY_BUFFER, 1), (BUFFER_DATA, ARRAY_BUFFER, 64, STATIC_DRAW, 0, 0, 0, 0),
+    (BUFFER_SUB_DATA, ARRAY_BUFFER, 0, 16, 1, 16, 1, AT_FLOATS), (GEN_BUFFERS, 2), (BIND_BUFFER, ELEMENT_ARRAY_BUFFER, 2),
+    (BUFFER_DATA, ELEMENT_ARRAY_BUFFER, 4, STATIC_DRAW, 1, 4, 1, AT_INDICES), (ACTIVE_TEXTURE, TEXTURE0), (GEN_TEXTURES, 1),
+    (BIND_TEXTURE, TEXTURE_2D, 1), (TEX_IMAGE_2D, TEXTURE_2D, 0, RGBA, 2, 2, 0, RGBA, UNSIGNED_BYTE, 1, 16, 1, AT_FLOATS),
+    (TEX_SUB_IMAGE_2D, TEXTURE_2D, 0, 1, 1, 1, 1, RGBA, UNSIGNED_BYTE, 1, 4, 1, AT_FLOATS), (269, TEXTURE_2D, 0x2801, 0x2600),
+    (267, TEXTURE_2D, 0, RGBA, 0, 0, 2, 2, 0), (268, TEXTURE_2D, 0, 0, 0, 0, 0, 1, 1), (270, TEXTURE_2D),
+    (271, 1), (272, RENDERBUFFER, 1), (274, RENDERBUFFER, DEPTH_COMPONENT16, 2, 2), (GEN_FRAMEBUFFERS, 1), (BIND_FRAMEBUFFER, FRAMEBUFFER, 1),
+    (FRAMEBUFFER_TEXTURE_2D, FRAMEBUFFER, COLOR_ATTACHMENT0, TEXTURE_2D, 1, 0), (279, FRAMEBUFFER, DEPTH_ATTACHMENT, RENDERBUFFER, 1),
+    # Shaders and programs
+    (CREATE_SHADER, 1, VERTEX_SHADER, *REPLY), (281, 1, 1, 16, 1, AT_FLOATS), (COMPILE_SHADER, 1), (CREATE_SHADER, 2, FRAGMENT_SHADER, *REPLY),
+    (COMPILE_SHADER, 2), (CREATE_PROGRAM, 3, *REPLY), (ATTACH_SHADER, 3, 1), (286, 3, 1), (ATTACH_SHADER, 3, 1), (ATTACH_SHADER, 3, 2),
+    (287, 3, 0, 1, 3, 1, AT_NAME), (LINK_PROGRAM, 3), (289, 3), (USE_PROGRAM, 3), (UNIFORM, 0, 4, 1, 0, 1, 16, 1, AT_FLOATS),
+    # Attributes and fixed state
+    (293, 1, ONE, 0, 0, ONE), (VERTEX_ATTRIB_POINTER, 0, 4, FLOAT, 0, 16, 0), (ENABLE_VERTEX_ATTRIB_ARRAY, 0), (ENABLE, BLEND), (299, ONE, 0, 0, ONE),
+    (300, 0x8006, 0x8006), (301, 0x0302, 0x0303, 1, 0), (302, ONE, 0, 0, ONE), (303, ONE), (304, 1), (305, 1, 1, 1, 1), (306, 0x0405), (307, 0x0203),
+    (308, 1), (309, 0, ONE), (310, 0x0901), (311, 0x8192, 0x1101), (312, ONE), (313, 0x0D05, 4), (314, 0, ONE), (315, ONE, 0), (316, 0, 0, 2, 2),
+    (317, 0x0408, 0x0203, 1, 255), (318, 0x0408, 255), (319, 0x0408, 0x1E00, 0x1E00, 0x1E01), (320, 0, 0, 2, 2),
+    # Clear, draws, reads
+    (CLEAR, COLOR_BUFFER_BIT), (DRAW_ARRAYS, TRIANGLES, 0, 3), (DRAW_ELEMENTS, TRIANGLES, 3, UNSIGNED_BYTE, 0), (325,), (326,),
+    (READ_PIXELS, 0, 0, 2, 2, RGBA, UNSIGNED_BYTE, 1), (4, 1, *REPLY), (5, 1, 0, 16, *REPLY), (SET_BUCKET_SIZE, 2, 8),
+    (SET_BUCKET_DATA, 2, 4, 1, 4, 1, AT_FLOATS),
+    # Queries
+    (GET_ERROR, *REPLY), (328, 2, 0x0B21, *REPLY), (329, FRAMEBUFFER, *REPLY), (330, ARRAY_BUFFER, 0x8764, *REPLY), (331, TEXTURE_2D, 0x2801, *REPLY),
+    (332, RENDERBUFFER, 0x8D42, *REPLY), (333, FRAMEBUFFER, COLOR_ATTACHMENT0, 0x8CD1, *REPLY), (334, 1, 0x8626, 1, *REPLY), (335, 1, 0x8B4F, *REPLY),
+    (336, 3, 0x8B85, *REPLY), (337, 1, 0), (338, 3, 0), (339, 1, 0), (340, 3, 0), (341, 3, 0, 2, *REPLY), (342, 4, 1, *REPLY), (343, 3, 0),
+    (344, 0, 3, UNSIGNED_BYTE, *REPLY),
+    # Deletions, and what the deleted objects leave behind
+    (DISABLE, BLEND), (296, 0), (USE_PROGRAM, 0), (DELETE_PROGRAM, 3), (DELETE_SHADER, 1), (DELETE_SHADER, 2), (DELETE_FRAMEBUFFERS, 1),
+    (DELETE_RENDERBUFFERS, 1), (DELETE_TEXTURES, 1), (DELETE_BUFFERS, 1), (DELETE_BUFFERS, 2),
+]
+
+
+def mixed(n):
+    """Rounds of all commands, 900 in a ring, which is published in halves. Each prints 24 replies and 79 driver calls."""
+    count, in_a_ring = n // len(MIXED), 900
+    ring = b"".join(command(*words) for words in MIXED) * in_a_ring
+    entries = len(ring) // 4
+    lines = "link ok -\nattr pos FLOAT_VEC4 0\nuniform u FLOAT_VEC4 1\n" * count + f"region 1 128\nbytes 1 0 {MIXED_DATA.hex()}\n"
+    text = f"ring {entries}\n{lines}bytes 0 0 {ring.hex()}\n" + f"put {entries // 2}\nput 0\n" * (count // in_a_ring)
+    return text.encode(), len(MIXED) * count, (24 + 79) * count + 1
+
+
 ROWS = [
     ("Noops in one line", noops, 500000),
     ("GenBuffers", new_names, 32000),
@@ -323,6 +374,7 @@ ROWS = [
     ("Clear of a texture's framebuffer", clears, 1000000),
     ("ReadPixels of 16 by 16", reads, 100000),
     ("Enable and Disable", raster, 500000),
+    ("all 95 commands in turn", mixed, 900 * len(MIXED)),
     ("64 MiB through a bucket", through_bucket, DATA_LIMIT),
     ("Noops, a put for each 1,024", large_rounds, 500000),
     ("Noops, a put for each", small_rounds, 500000),
