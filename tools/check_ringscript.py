@@ -140,7 +140,9 @@ def main():
     failures += [failure for file, _, _ in found for failure in file]
     missing = set(BY_NAME) - set().union(*(names for _, _, names in found))
     failures += [f"no row has the command {name}" for name in sorted(missing)]
-    print("\n".join(f"check_ringscript: {failure}" for failure in failures) or f"{sum(count for _, count, _ in found)} scripts are well")
+    for failure in failures:
+        print(f"check_ringscript: {failure}", file=sys.stderr)
+    print(f"{sum(count for _, count, _ in found)} scripts of rows, {len(failures)} failures")
     return 1 if failures else 0
 
 
